@@ -1,0 +1,5 @@
+pub mod Orders
+pub mod OrderLaws
+pub mod Machines
+pub mod MachineLaws
+pub mod Refusals
