@@ -1,11 +1,11 @@
 -- Machines: what one means, and what tables, traces and pairs of machines mean. Assumes nothing.
-use mathlib.Core.List.{List, [], _∷_, _++_}
+use mathlib.Core.List.{List, [], _++_}
 use mathlib.Core.Bool.{Bool, false, cond, _&&_, not}
-use Prim.Native.Nat.{ℕ, zero, suc, _+_, _-_, _*_, _<_, _≤_}
+use Prim.Native.Nat.{ℕ, _+_, _-_, _*_, _<_, _≤_}
 use lib.Dec.{T, ltb, leb, eqb}
 use lib.ListN.{length, getD}
 use Rattle.std.specs.declared.option.Option.{Option}
-use Rattle.std.specs.declared.option.Option.the-variants.{None, Some}
+use Rattle.std.specs.shelf.Maps.{nth}
 
 -- The most states that a machine may have.
 abbrev pub stateBound : ℕ
@@ -19,14 +19,9 @@ pub record Meaning (L : Type 0) : Type 0 where
 abbrev pub states : {L : Type 0} → Meaning L → ℕ
 states m = length (m .labels)
 
--- What stands at a place of a list, if anything.
-abbrev pub at : {L : Type 0} → List L → ℕ → Option L
-at [] s = None
-at (x ∷ xs) zero = Some x
-at (x ∷ xs) (suc s) = at xs s
-
+-- The label of a state, or nothing where s is none.
 abbrev pub labelOf : {L : Type 0} → Meaning L → ℕ → Option L
-labelOf m s = at (m .labels) s
+labelOf m s = nth (m .labels) s
 
 -- m has a step from s to t.
 pub record Step {L : Type 0} (m : Meaning L) (s t : ℕ) : Type 0 where

@@ -23,6 +23,6 @@ Answered Good (Ok a) = Good a
 Answered Good (Err e) = ⊥
 
 -- Where the checks find a cause, the call is refused by its number and leaves all as it was; else it answers.
-abbrev pub Checked : {A : Type 0} → Option ℕ → Type 0 → (A → Type 0) → Result A Refusal → Type 0
-Checked (Some k) Unchanged Good r = Refused k r × Unchanged
-Checked None Unchanged Good r = Answered Good r
+pub record Checked {A : Type 0} (cause : Option ℕ) (Unchanged : Type 0) (Good : A → Type 0) (r : Result A Refusal) : Type 0 where
+  pub refused : (k : ℕ) → cause ≡ Some k → Refused k r × Unchanged
+  pub answered : cause ≡ None → Answered Good r

@@ -1,0 +1,31 @@
+-- What the breadth-first search keeps for each state. Assumes nothing.
+use mathlib.Core.Path.{_≡_}
+use Prim.Native.Nat.{ℕ, _+_, _<_, _≤_}
+use Rattle.std.specs.declared.option.Option.{Option}
+use Rattle.std.specs.declared.option.Option.the-variants.{None, Some}
+use Rattle.model.specs.Machines.{stateBound}
+use Rattle.until.specs.Walks.{Walk, steps}
+
+-- A walk from s, by steps of S over states that are ok, that ends at u.
+abbrev pub To : (ℕ → ℕ → Type 0) → (ℕ → Type 0) → ℕ → ℕ → Type 0
+To S ok s u = Walk S ok (λ v. v ≡ u) s
+
+-- Of each of n states, dist has the fewest steps of a walk that ends there, and the bound where there is none;
+-- from has the state before it on such a walk.
+pub record Found (n : ℕ) (S : ℕ → ℕ → Type 0) (ok : ℕ → Type 0) (s : ℕ) (dist from : ℕ → ℕ) : Type 0 where
+  pub walks : (u : ℕ) → u < n → dist u < stateBound → (w : To S ok s u) × (steps w ≡ dist u)
+  pub least : (u : ℕ) (w : To S ok s u) → (dist u < stateBound) × (dist u ≤ steps w)
+  pub few : (u : ℕ) → u < n → dist u < stateBound → dist u < n
+  pub back : (u k : ℕ) → u < n → dist u < stateBound → dist u ≡ k + 1 → (from u < n) × (dist (from u) ≡ k) × ok (from u) × S (from u) u
+
+-- The state u is marked and reached, and no marked one is nearer.
+pub record Closest (n : ℕ) (goal : ℕ → Type 0) (dist : ℕ → ℕ) (u : ℕ) : Type 0 where
+  pub within : u < n
+  pub marked : goal u
+  pub near : dist u < stateBound
+  pub least : (v : ℕ) → v < n → goal v → dist u ≤ dist v
+
+-- The closest marked state, or none where none is reached.
+abbrev pub Chosen : ℕ → (ℕ → Type 0) → (ℕ → ℕ) → Option ℕ → Type 0
+Chosen n goal dist (Some u) = Closest n goal dist u
+Chosen n goal dist None = (v : ℕ) → v < n → goal v → stateBound ≤ dist v

@@ -1,0 +1,125 @@
+//! The one search for walks: breadth first, over any machine and any row of bytes.
+use model::Machine;
+use model::Refusal;
+use model::STATE_BOUND;
+use model::State;
+ghost use Prim.Native.Nat.{_<_, _≤_};
+ghost use lib.ListN.{length, getD};
+ghost use mathlib.Core.Path.{_≡_};
+ghost use Rattle.model.specs.Machines.{states, stateBound, Step};
+ghost use Rattle.model.specs.Refusals.{Checked};
+ghost use Rattle.until.specs.Searches.{marked as not-zero, Marked, Reached, walkRefusal, Nearest};
+ghost use Rattle.until.specs.Explored.{Found, Chosen};
+
+/// What the search keeps for each state: the fewest steps to it, and the state before it.
+#[derive(Clone, Copy)]
+struct Explored {
+    dist: [usize; STATE_BOUND],
+    from: [usize; STATE_BOUND],
+}
+
+/// Whether the byte of `u` is not zero. A number past the row is not marked.
+pub fn marked(row: &[u8], u: usize) -> bool
+    ensures { λ r. ⌜ r ≡ not-zero (now (row .entry)) u ⌝ }
+{
+    u < row.len() && row[u] != 0
+}
+
+/// Searches from a state, and goes on from the marked states only.
+fn explore<M: Machine>(m: &M, row: &[u8], start: usize) -> Explored
+    requires { ⌜ start < states (M·Machine .meaning (now m)) ⌝ }
+    ensures { λ r. ⌜ Found (states (M·Machine .meaning (now (m .entry)))) (Step (M·Machine .meaning (now (m .entry)))) (Marked (now (row .entry))) start (λ u. getD (r .dist) u 0) (λ u. getD (r .from) u 0) ⌝ }
+{
+    let n = m.count();
+    let mut dist = [STATE_BOUND; STATE_BOUND];
+    let mut from = [0; STATE_BOUND];
+    let mut order = [0; STATE_BOUND];
+    dist[start] = 0;
+    order[0] = start;
+    let mut head = 0;
+    let mut tail = 1;
+    while head < tail {
+        let s = order[head];
+        if marked(row, s) {
+            let d = dist[s] + 1;
+            for t in 0..n {
+                if dist[t] == STATE_BOUND && m.has_step(s, t) {
+                    dist[t] = d;
+                    from[t] = s;
+                    order[tail] = t;
+                    tail += 1;
+                }
+            }
+        }
+        head += 1;
+    }
+    Explored { dist, from }
+}
+
+/// The states that a walk from `start` reaches, whose states before the last are all marked in `row`.
+/// A start that is no state reaches nothing.
+pub fn reached<M: Machine>(m: &M, row: &[u8], start: usize) -> [bool; STATE_BOUND]
+    ensures { λ r. ⌜ Reached (M·Machine .meaning (now (m .entry))) (now (row .entry)) start r ⌝ }
+{
+    let mut reached = [false; STATE_BOUND];
+    let n = m.count();
+    if start < n {
+        let found = explore(m, row, start);
+        for u in 0..n {
+            reached[u] = found.dist[u] < STATE_BOUND;
+        }
+    }
+    reached
+}
+
+/// The nearest of the first `n` states that is marked in `goal`, if any is reached.
+fn nearest(dist: &[usize; STATE_BOUND], goal: &[u8], n: usize) -> Option<usize>
+    requires { ⌜ n ≤ stateBound ⌝ }
+    ensures { λ r. ⌜ Chosen n (Marked (now (goal .entry))) (λ v. getD (now (dist .entry)) v 0) r ⌝ }
+{
+    let mut best = STATE_BOUND;
+    let mut at = 0;
+    for u in 0..n {
+        if marked(goal, u) && dist[u] < best {
+            best = dist[u];
+            at = u;
+        }
+    }
+    if best < STATE_BOUND { Some(at) } else { None }
+}
+
+/// Writes the states of a walk of the fewest steps from `start` to a state marked in `goal`, whose
+/// states before the last are all marked in `row`, and answers how many states it wrote; nothing where
+/// there is no such walk. Memory with less than a place for each state is refused. The rest of the
+/// memory is untouched. Which of several shortest walks is written is left open.
+pub fn shortest_walk<M: Machine>(
+    m: &M,
+    row: &[u8],
+    goal: &[u8],
+    start: usize,
+    walk: &mut [State],
+) -> Result<Option<usize>, Refusal>
+    ensures { λ r. ⌜ Checked (walkRefusal (M·Machine .meaning (now (m .entry))) (length (now (walk .entry)))) (now (walk .exit) ≡ now (walk .entry)) (Nearest (M·Machine .meaning (now (m .entry))) (now (row .entry)) (now (goal .entry)) start (now (walk .entry)) (now (walk .exit))) r ⌝ }
+{
+    let n = m.count();
+    if walk.len() < n {
+        return Err(Refusal::ShortMemory);
+    }
+    if start >= n {
+        return Ok(None);
+    }
+    let found = explore(m, row, start);
+    let Some(last) = nearest(&found.dist, goal, n) else {
+        return Ok(None);
+    };
+    let steps = found.dist[last];
+    let mut at = last;
+    let mut left = steps;
+    walk[left] = at as State;
+    while left > 0 {
+        at = found.from[at];
+        left -= 1;
+        walk[left] = at as State;
+    }
+    Ok(Some(steps + 1))
+}
