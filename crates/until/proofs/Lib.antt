@@ -3,3 +3,7 @@ pub mod Breadth
 pub mod Turns
 pub mod Reach
 pub mod Trail
+pub mod Lines
+pub mod Fill
+pub mod Denoting
+pub mod Evaluating

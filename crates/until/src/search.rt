@@ -6,9 +6,10 @@ use model::State;
 ghost use Prim.Native.Nat.{_<_, _≤_};
 ghost use lib.ListN.{length, getD};
 ghost use mathlib.Core.Path.{_≡_};
+ghost use Rattle.std.specs.Orderings.{Decides};
 ghost use Rattle.model.specs.Machines.{states, stateBound, Step};
 ghost use Rattle.model.specs.Refusals.{Checked};
-ghost use Rattle.until.specs.Searches.{marked as not-zero, Marked, Reached, walkRefusal, Nearest};
+ghost use Rattle.until.specs.Searches.{marked as not-zero, Marked, Over, Reached, walkRefusal, Nearest};
 ghost use Rattle.until.specs.Explored.{Found, Chosen};
 
 /// What the search keeps for each state: the fewest steps to it, and the state before it.
@@ -70,6 +71,19 @@ pub fn reached<M: Machine>(m: &M, row: &[u8], start: usize) -> [bool; STATE_BOUN
         }
     }
     reached
+}
+
+/// Whether some walk from `start` ends at a state marked in `goal`, with all states before it marked in `row`.
+pub fn walk_exists<M: Machine>(m: &M, row: &[u8], goal: &[u8], start: usize) -> bool
+    ensures { λ r. ⌜ Decides r ((start < states (M·Machine .meaning (now (m .entry)))) × Over (M·Machine .meaning (now (m .entry))) (now (row .entry)) (Marked (now (goal .entry))) start) ⌝ }
+{
+    let reached = reached(m, row, start);
+    for u in 0..m.count() {
+        if reached[u] && marked(goal, u) {
+            return true;
+        }
+    }
+    false
 }
 
 /// The nearest of the first `n` states that is marked in `goal`, if any is reached.

@@ -1,0 +1,97 @@
+//! Evaluation of formulas, line by line.
+use crate::formula::Line;
+use crate::formula::all_name_earlier;
+use crate::search::marked;
+use crate::search::walk_exists;
+use model::Machine;
+use model::Order;
+use model::Refusal;
+ghost use Prim.Native.Nat.{_+_, _*_, _<_, _≤_};
+ghost use lib.Dec.{T};
+ghost use lib.ListN.{length};
+ghost use mathlib.Core.Path.{_≡_};
+ghost use Rattle.std.specs.Orderings.{Decides};
+ghost use Rattle.model.specs.Machines.{states};
+ghost use Rattle.model.specs.Refusals.{Checked};
+ghost use Rattle.until.specs.Lines.{namesEarlier, evaluateRefusal, Evaluated};
+ghost use Rattle.until.specs.Filled.{rowOf, HoldsBy, Filled};
+
+/// Row `k` of rows of `n` bytes.
+fn row(rows: &[u8], n: usize, k: usize) -> &[u8]
+    requires { ⌜ k * n + n ≤ length (now rows) ⌝ }
+    ensures { λ r. ⌜ now r ≡ rowOf n (now (rows .entry)) k ⌝ }
+{
+    &rows[k * n..k * n + n]
+}
+
+/// Whether line `k` holds at state `s`, by the rows of the lines before it.
+fn holds_at<M: Machine, O: Order<Label = M::Label>>(
+    m: &M,
+    o: &O,
+    line: &Line<M::Label>,
+    k: usize,
+    rows: &[u8],
+    s: usize,
+) -> bool
+    requires state { ⌜ s < states (M·Machine .meaning (now m)) ⌝ }
+    requires earlier { ⌜ T (namesEarlier k (now line)) ⌝ }
+    requires room { ⌜ length (now rows) ≡ k * states (M·Machine .meaning (now m)) ⌝ }
+    ensures { λ r. ⌜ Decides r (HoldsBy (O·Order .relation (now (o .entry))) (M·Machine .meaning (now (m .entry))) (now (rows .entry)) (now (line .entry)) s) ⌝ }
+{
+    let n = m.count();
+    match line {
+        Line::True => true,
+        Line::At(label) => match m.label(s) {
+            Some(own) => o.at_most(label, &own),
+            None => false,
+        },
+        Line::And(f, g) => marked(row(rows, n, *f), s) && marked(row(rows, n, *g), s),
+        Line::Until(f, g) => walk_exists(m, row(rows, n, *f), row(rows, n, *g), s),
+    }
+}
+
+/// Fills the row of line `k`, and touches nothing else.
+fn fill_row<M: Machine, O: Order<Label = M::Label>>(
+    m: &M,
+    o: &O,
+    line: &Line<M::Label>,
+    k: usize,
+    rows: &mut [u8],
+)
+    requires earlier { ⌜ T (namesEarlier k (now line)) ⌝ }
+    requires room { ⌜ k * states (M·Machine .meaning (now m)) + states (M·Machine .meaning (now m)) ≤ length (now rows) ⌝ }
+    ensures { λ _. ⌜ Filled (O·Order .relation (now (o .entry))) (M·Machine .meaning (now (m .entry))) (now (line .entry)) k (now (rows .entry)) (now (rows .exit)) ⌝ }
+{
+    let n = m.count();
+    for s in 0..n {
+        let holds = holds_at(m, o, line, k, &rows[0..k * n], s);
+        rows[k * n + s] = u8::from(holds);
+    }
+}
+
+/// Evaluates the formulas that the lines denote at every state: the byte at line × n + state becomes 1
+/// where the line holds and 0 elsewhere, for a machine of n states. Memory too short for that is refused,
+/// then a line that names no earlier line. The memory past the rows is untouched, and all of it by a refusal.
+pub fn evaluate<M: Machine, O: Order<Label = M::Label>>(
+    m: &M,
+    o: &O,
+    lines: &[Line<M::Label>],
+    rows: &mut [u8],
+) -> Result<(), Refusal>
+    ensures { λ r. ⌜ Checked (evaluateRefusal (states (M·Machine .meaning (now (m .entry)))) (now (lines .entry)) (length (now (rows .entry)))) (now (rows .exit) ≡ now (rows .entry)) (λ _. Evaluated (O·Order .relation (now (o .entry))) (M·Machine .meaning (now (m .entry))) (now (lines .entry)) (now (rows .entry)) (now (rows .exit))) r ⌝ }
+{
+    let n = m.count();
+    let Some(size) = lines.len().checked_mul(n) else {
+        return Err(Refusal::ShortMemory);
+    };
+    if rows.len() < size {
+        return Err(Refusal::ShortMemory);
+    }
+    if !all_name_earlier(lines) {
+        return Err(Refusal::NoEarlierLine);
+    }
+    for (k, line) in lines.iter().enumerate() {
+        fill_row(m, o, line, k, rows);
+    }
+    Ok(())
+}
