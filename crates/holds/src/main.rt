@@ -19,7 +19,10 @@ fn report(heap: Global) -> Result<String, AnyError> {
     let two = FlagSet { bits: 2 };
     let left = [one, two];
     let right = [one];
-    let machine = Beside { left: Table::new(&left, &[0, 1, 0, 0]), right: Table::new(&right, &[0]) };
+    let machine = Beside {
+        left: Table::new(&left, &[0, 1, 0, 0]),
+        right: Table::new(&right, &[0]),
+    };
     let lines = [Line::At(one), Line::At(two), Line::Until(0, 1)];
     let n = machine.count();
     let mut rows = vec![in heap; 0u8; 3 * n]?;

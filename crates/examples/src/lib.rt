@@ -1,0 +1,4 @@
+//! How the calls are used: a buyer's own order, and examples that run.
+pub mod severity;
+#[cfg(test)]
+mod tests;
