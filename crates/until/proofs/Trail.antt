@@ -8,7 +8,7 @@ use lib.ListN.{length, set, drop}
 use Rattle.std.proofs.shelf.Lists.{length-set, drop-set, drop-set-lt}
 use Rattle.model.specs.Machines.{Meaning, Step, states, stateBound}
 use Rattle.until.specs.Walks.{Walk, stop, go, steps, visited}
-use Rattle.until.specs.Searches.{Marked, Over, Written}
+use Rattle.until.specs.Searches.{Marked, Over, OverFrom, Written}
 use Rattle.until.specs.Explored.{Found, Closest}
 use Rattle.until.proofs.Walks.{walk-last, walk-end, walk-within}
 
@@ -82,7 +82,7 @@ module _ {L : Type 0} (m : Meaning L) (row goal : List ℕ) (dist : ℕ → ℕ)
   }
 
   pub no-trail : {s : ℕ} {from : ℕ → ℕ} → Found (states m) (Step m) (Marked row) s dist from
-      → ((v : ℕ) → v < states m → Marked goal v → stateBound ≤ dist v) → s < states m → Over m row (Marked goal) s → ⊥
-  no-trail found none start w =
-      let e = walk-end w in
-      omega (arith, found .least (e .0) (e .2) .0, none (e .0) (walk-within {n = states m} (λ a b st. st .to-state) start (e .2)) (e .1))
+      → ((v : ℕ) → v < states m → Marked goal v → stateBound ≤ dist v) → OverFrom m row (Marked goal) s → ⊥
+  no-trail found none w =
+      let e = walk-end (w .1) in
+      omega (arith, found .least (e .0) (e .2) .0, none (e .0) (walk-within {n = states m} (λ a b st. st .to-state) (w .0) (e .2)) (e .1))

@@ -8,7 +8,10 @@ use lib.Dec.{ltb}
 use lib.ListN.{length, getD, drop}
 use Rattle.std.specs.declared.option.Option.{Option}
 use Rattle.std.specs.declared.option.Option.the-variants.{None, Some}
+use Rattle.std.specs.declared.result.Result.{Result}
+use Rattle.model.specs.declared.refusal.Refusal.{Refusal}
 use Rattle.model.specs.Machines.{Meaning, states}
+use Rattle.model.specs.Refusals.{Checked}
 use Rattle.until.specs.declared.formula.Line.{Line}
 use Rattle.until.specs.declared.formula.Line.the-variants.{True, At, And, Until}
 use Rattle.until.specs.Formulas.{Formula, truth, at, and, until, Holds}
@@ -57,3 +60,8 @@ module _ {L : Type 0} where
   pub record Evaluated (atMost : L → L → Bool) (m : Meaning L) (ls : List (Line L)) (before bytes : List ℕ) : Type 0 where
     pub said : (k s : ℕ) → k < length ls → s < states m → Says (getD bytes (k * states m + s) 0) (Holds atMost m (denoted ls k) s)
     pub rest : drop (length ls * states m) bytes ≡ drop (length ls * states m) before
+
+  -- What evaluating answers, and what its memory then holds.
+  abbrev pub Evaluates : (L → L → Bool) → Meaning L → List (Line L) → List ℕ → Result (Unit {0}) Refusal → List ℕ → Type 0
+  Evaluates atMost m ls before r bytes =
+      Checked (evaluateRefusal (states m) ls (length before)) (bytes ≡ before) (λ _. Evaluated atMost m ls before bytes) r

@@ -8,7 +8,10 @@ use lib.ListN.{length, getD, drop}
 use Rattle.std.specs.Orderings.{Decides}
 use Rattle.std.specs.declared.option.Option.{Option}
 use Rattle.std.specs.declared.option.Option.the-variants.{None, Some}
+use Rattle.std.specs.declared.result.Result.{Result}
+use Rattle.model.specs.declared.refusal.Refusal.{Refusal}
 use Rattle.model.specs.Machines.{Meaning, states, Step}
+use Rattle.model.specs.Refusals.{Checked}
 use Rattle.until.specs.Walks.{Walk, visited, Shortest}
 
 -- The byte of u is not zero. A number past the row is not marked.
@@ -18,31 +21,36 @@ marked row u = not (eqb (getD row u 0) 0)
 abbrev pub Marked : List ℕ → ℕ → Type 0
 Marked row u = T (marked row u)
 
--- A walk of m from s over marked states to one where Q holds.
-abbrev pub Over : {L : Type 0} → Meaning L → List ℕ → (ℕ → Type 0) → ℕ → Type 0
-Over m row Q s = Walk (Step m) (Marked row) Q s
+module _ {L : Type 0} (m : Meaning L) (row : List ℕ) where
+  -- A walk from s over marked states to one where Q holds.
+  abbrev pub Over : (ℕ → Type 0) → ℕ → Type 0
+  Over Q s = Walk (Step m) (Marked row) Q s
 
--- From the state s, some walk over marked states ends at u.
-abbrev pub Reaches : {L : Type 0} → Meaning L → List ℕ → ℕ → ℕ → Type 0
-Reaches m row s u = (s < states m) × Over m row (λ v. v ≡ u) s
+  -- The same, from a number that is a state.
+  abbrev pub OverFrom : (ℕ → Type 0) → ℕ → Type 0
+  OverFrom Q s = (s < states m) × Over Q s
 
--- The list says of every state whether it is reached.
-abbrev pub Reached : {L : Type 0} → Meaning L → List ℕ → ℕ → List Bool → Type 0
-Reached m row s reached = (u : ℕ) → Decides (getD reached u false) (Reaches m row s u)
+  -- The list says of every u whether such a walk from s ends there.
+  abbrev pub Reached : ℕ → List Bool → Type 0
+  Reached s reached = (u : ℕ) → Decides (getD reached u false) (OverFrom (λ v. v ≡ u) s)
 
--- A walk needs a place for each state.
-abbrev pub walkRefusal : {L : Type 0} → Meaning L → ℕ → Option ℕ
-walkRefusal m room = cond (ltb room (states m)) (Some 6) None
+  -- The memory begins with the k states of a shortest walk to a marked goal, and is as before past them.
+  pub record Written (goal : List ℕ) (s : ℕ) (before after : List ℕ) (k : ℕ) : Type 0 where
+    pub from-state : s < states m
+    pub walk : Over (Marked goal) s
+    pub shortest : Shortest walk
+    pub counted : k ≡ length (visited walk)
+    pub memory : after ≡ visited walk ++ drop k before
 
--- The memory begins with the states of a shortest walk, of which there are k, and is as before past them.
-pub record Written {L : Type 0} (m : Meaning L) (row goal : List ℕ) (s : ℕ) (before after : List ℕ) (k : ℕ) : Type 0 where
-  pub from-state : s < states m
-  pub walk : Over m row (Marked goal) s
-  pub shortest : Shortest walk
-  pub counted : k ≡ length (visited walk)
-  pub memory : after ≡ visited walk ++ drop k before
+  -- Such a walk is written, or there is none and the memory is as before.
+  abbrev pub WrittenIfAny : List ℕ → ℕ → List ℕ → List ℕ → Option ℕ → Type 0
+  WrittenIfAny goal s before after (Some k) = Written goal s before after k
+  WrittenIfAny goal s before after None = (OverFrom (Marked goal) s → ⊥) × (after ≡ before)
 
--- What the search for a shortest walk to a marked goal answers.
-abbrev pub Nearest : {L : Type 0} → Meaning L → List ℕ → List ℕ → ℕ → List ℕ → List ℕ → Option ℕ → Type 0
-Nearest m row goal s before after (Some k) = Written m row goal s before after k
-Nearest m row goal s before after None = (s < states m → Over m row (Marked goal) s → ⊥) × (after ≡ before)
+  -- Why the search for a walk in so much memory is refused, if it is: it needs a place for each state.
+  abbrev pub walkRefusal : ℕ → Option ℕ
+  walkRefusal room = cond (ltb room (states m)) (Some 6) None
+
+  -- What the search for a shortest walk answers, and what its memory then holds.
+  abbrev pub WalkFound : List ℕ → ℕ → List ℕ → Result (Option ℕ) Refusal → List ℕ → Type 0
+  WalkFound goal s before r after = Checked (walkRefusal (length before)) (after ≡ before) (WrittenIfAny goal s before after) r

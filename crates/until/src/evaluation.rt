@@ -12,8 +12,7 @@ ghost use lib.ListN.{length};
 ghost use mathlib.Core.Path.{_≡_};
 ghost use Rattle.std.specs.Orderings.{Decides};
 ghost use Rattle.model.specs.Machines.{states};
-ghost use Rattle.model.specs.Refusals.{Checked};
-ghost use Rattle.until.specs.Lines.{namesEarlier, evaluateRefusal, Evaluated};
+ghost use Rattle.until.specs.Lines.{namesEarlier, Evaluates};
 ghost use Rattle.until.specs.Filled.{rowOf, HoldsBy, Filled};
 
 /// Row `k` of rows of `n` bytes.
@@ -78,7 +77,7 @@ pub fn evaluate<M: Machine, O: Order<Label = M::Label>>(
     lines: &[Line<M::Label>],
     rows: &mut [u8],
 ) -> Result<(), Refusal>
-    ensures { λ r. ⌜ Checked (evaluateRefusal (states (M·Machine .meaning (now (m .entry)))) (now (lines .entry)) (length (now (rows .entry)))) (now (rows .exit) ≡ now (rows .entry)) (λ _. Evaluated (O·Order .relation (now (o .entry))) (M·Machine .meaning (now (m .entry))) (now (lines .entry)) (now (rows .entry)) (now (rows .exit))) r ⌝ }
+    ensures { λ r. ⌜ Evaluates (O·Order .relation (now (o .entry))) (M·Machine .meaning (now (m .entry))) (now (lines .entry)) (now (rows .entry)) r (now (rows .exit)) ⌝ }
 {
     let n = m.count();
     let Some(size) = lines.len().checked_mul(n) else {

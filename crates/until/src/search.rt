@@ -4,13 +4,12 @@ use model::Refusal;
 use model::STATE_BOUND;
 use model::State;
 ghost use Prim.Native.Nat.{_<_, _≤_};
-ghost use lib.ListN.{length, getD};
+ghost use lib.ListN.{getD};
 ghost use mathlib.Core.Path.{_≡_};
 ghost use Rattle.std.specs.Orderings.{Decides};
-ghost use Rattle.model.specs.Machines.{states, stateBound, Step};
-ghost use Rattle.model.specs.Refusals.{Checked};
-ghost use Rattle.until.specs.Searches.{marked as not-zero, Marked, Over, Reached, walkRefusal, Nearest};
-ghost use Rattle.until.specs.Explored.{Found, Chosen};
+ghost use Rattle.model.specs.Machines.{states, stateBound};
+ghost use Rattle.until.specs.Searches.{marked as not-zero, Marked, OverFrom, Reached, WalkFound};
+ghost use Rattle.until.specs.Explored.{Explores, Chosen};
 
 /// What the search keeps for each state: the fewest steps to it, and the state before it.
 #[derive(Clone, Copy)]
@@ -29,7 +28,7 @@ pub fn marked(row: &[u8], u: usize) -> bool
 /// Searches from a state, and goes on from the marked states only.
 fn explore<M: Machine>(m: &M, row: &[u8], start: usize) -> Explored
     requires { ⌜ start < states (M·Machine .meaning (now m)) ⌝ }
-    ensures { λ r. ⌜ Found (states (M·Machine .meaning (now (m .entry)))) (Step (M·Machine .meaning (now (m .entry)))) (Marked (now (row .entry))) start (λ u. getD (r .dist) u 0) (λ u. getD (r .from) u 0) ⌝ }
+    ensures { λ r. ⌜ Explores (M·Machine .meaning (now (m .entry))) (now (row .entry)) start (r .dist) (r .from) ⌝ }
 {
     let n = m.count();
     let mut dist = [STATE_BOUND; STATE_BOUND];
@@ -75,7 +74,7 @@ pub fn reached<M: Machine>(m: &M, row: &[u8], start: usize) -> [bool; STATE_BOUN
 
 /// Whether some walk from `start` ends at a state marked in `goal`, with all states before it marked in `row`.
 pub fn walk_exists<M: Machine>(m: &M, row: &[u8], goal: &[u8], start: usize) -> bool
-    ensures { λ r. ⌜ Decides r ((start < states (M·Machine .meaning (now (m .entry)))) × Over (M·Machine .meaning (now (m .entry))) (now (row .entry)) (Marked (now (goal .entry))) start) ⌝ }
+    ensures { λ r. ⌜ Decides r (OverFrom (M·Machine .meaning (now (m .entry))) (now (row .entry)) (Marked (now (goal .entry))) start) ⌝ }
 {
     let reached = reached(m, row, start);
     for u in 0..m.count() {
@@ -113,7 +112,7 @@ pub fn shortest_walk<M: Machine>(
     start: usize,
     walk: &mut [State],
 ) -> Result<Option<usize>, Refusal>
-    ensures { λ r. ⌜ Checked (walkRefusal (M·Machine .meaning (now (m .entry))) (length (now (walk .entry)))) (now (walk .exit) ≡ now (walk .entry)) (Nearest (M·Machine .meaning (now (m .entry))) (now (row .entry)) (now (goal .entry)) start (now (walk .entry)) (now (walk .exit))) r ⌝ }
+    ensures { λ r. ⌜ WalkFound (M·Machine .meaning (now (m .entry))) (now (row .entry)) (now (goal .entry)) start (now (walk .entry)) r (now (walk .exit)) ⌝ }
 {
     let n = m.count();
     if walk.len() < n {
