@@ -7,17 +7,17 @@ use Rattle.model.specs.Orders.{Preorder}
 use Rattle.examples.specs.declared.severity.Alarm.{Alarm}
 use Rattle.examples.specs.declared.severity.Alarm.the-variants.{Quiet, Warning, Fault}
 
-abbrev pub grade : Alarm → ℕ
-grade Quiet = 0
-grade Warning = 1
-grade Fault = 2
+abbrev pub gradeOf : Alarm → ℕ
+gradeOf Quiet = 0
+gradeOf Warning = 1
+gradeOf Fault = 2
 
 -- b is at least as grave as a.
-abbrev pub graver : Alarm → Alarm → Bool
-graver a b = leb (grade a) (grade b)
+abbrev pub noGraver : Alarm → Alarm → Bool
+noGraver a b = leb (gradeOf a) (gradeOf b)
 
-pub graver-lawful : Preorder graver
-graver-lawful = record {
-  reflexive = λ a. le→leb (grade a) (grade a) (le-refl (grade a));
-  transitive = λ a b c p q. le→leb (grade a) (grade c) (le-trans (leb→le (grade a) (grade b) p) (leb→le (grade b) (grade c) q));
+pub no-noGraver-lawful : Preorder noGraver
+no-noGraver-lawful = record {
+  reflexive = λ a. le→leb (gradeOf a) (gradeOf a) (le-refl (gradeOf a));
+  transitive = λ a b c p q. le→leb (gradeOf a) (gradeOf c) (le-trans (leb→le (gradeOf a) (gradeOf b) p) (leb→le (gradeOf b) (gradeOf c) q));
 }

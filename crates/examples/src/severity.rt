@@ -1,7 +1,7 @@
 //! An order of a buyer's own: alarms by how grave they are.
 use model::Order;
 ghost use mathlib.Core.Path.{_≡_};
-ghost use Rattle.examples.specs.Severity.{grade as grade-of, graver, graver-lawful};
+ghost use Rattle.examples.specs.Severity.{gradeOf, noGraver, no-noGraver-lawful};
 
 #[derive(Clone, Copy)]
 pub enum Alarm {
@@ -13,7 +13,7 @@ pub enum Alarm {
 impl Alarm {
     /// 0 for the least grave.
     pub fn grade(self) -> u8
-        ensures { λ r. ⌜ r ≡ grade-of self ⌝ }
+        ensures { λ r. ⌜ r ≡ gradeOf self ⌝ }
     {
         match self {
             Alarm::Quiet => 0,
@@ -30,9 +30,9 @@ pub struct Severity {}
 pub impl Order for Severity as SeverityOrder {
     type Label = Alarm;
 
-    ghost relation = { λ _. graver };
+    ghost relation = { λ _. noGraver };
 
-    ghost lawful = { λ _. graver-lawful };
+    ghost lawful = { λ _. no-noGraver-lawful };
 
     fn at_most(&self, a: &Alarm, b: &Alarm) -> bool {
         a.grade() <= b.grade()

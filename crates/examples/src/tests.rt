@@ -28,7 +28,9 @@ use model::trace::TraceMachine;
 use std::test::*;
 use until::Line;
 use until::evaluate;
+use until::reached;
 use until::shortest_walk;
+use until::walk_exists;
 
 const ONE: FlagSet = FlagSet { bits: 1 };
 
@@ -44,6 +46,20 @@ fn orders_answer() -> Result<(), Fail> {
     let wide = Span { low: -3, high: 12 };
     let narrow = Span { low: 0, high: 12 };
     check(Band {}.at_most(&wide, &narrow) && !Band {}.at_most(&narrow, &wide))?;
+    let lower = Span { low: -3, high: 11 };
+    check(
+        Band {}.at_most(&wide, &lower)
+            && !Band {}.at_most(&lower, &wide)
+            && !Band {}.at_most(&lower, &narrow),
+    )?;
+    let pairs = Both {
+        first: Flags {},
+        second: Band {},
+    };
+    check(
+        pairs.at_most(&(ONE, wide), &(THREE, narrow))
+            && !pairs.at_most(&(ONE, narrow), &(THREE, wide)),
+    )?;
     let upside_down = Span { low: 5, high: -5 };
     check(Band {}.at_most(&upside_down, &upside_down))?;
     check(
@@ -94,6 +110,8 @@ fn what_does_not_fit_is_empty() -> Result<(), Fail> {
     let long = [ONE; 65];
     check(!Table::fits(&none, &[]) && !Table::fits(&[ONE], &[0, 0]) && Table::fits(&[ONE], &[0]))?;
     check_eq(Table::new(&[ONE], &[0, 0]).count(), 0)?;
+    check_eq(Table::new(&long, &[0; 4225]).count(), 0)?;
+    check_eq(Trace::new(&none).count(), 0)?;
     check_eq(Trace::new(&long).count(), 0)?;
     check_eq(Trace::new(&long[0..64]).count(), 64)?;
     check_eq(
@@ -116,6 +134,12 @@ fn walks_are_shortest() -> Result<(), Fail> {
         Ok(Some(3)),
     )?;
     check(walk == [0, 2, 3, 9, 9])?;
+    check(
+        walk_exists(&machine, &[1, 1, 1, 0], &[0, 0, 0, 1], 0)
+            && !walk_exists(&machine, &[1], &[1], 4),
+    )?;
+    let ends = reached(&machine, &[1, 0, 0, 0], 0);
+    check(ends[0] && ends[1] && ends[2] && !ends[3] && !ends[4])?;
     check_eq(
         shortest_walk(&machine, &[1, 1, 0, 0], &[0, 0, 0, 1], 0, &mut walk),
         Ok(None),
@@ -159,7 +183,7 @@ fn formulas_are_refused() -> Result<(), Fail> {
             &[Line::True, Line::And(0, 1)],
             &mut rows,
         ),
-        Err(Refusal::NoEarlierLine),
+        Err(Refusal::LineNotEarlier),
     )?;
     check_eq(
         evaluate(
@@ -183,6 +207,6 @@ fn formulas_are_refused() -> Result<(), Fail> {
     check(
         rows == [7, 7]
             && Refusal::ShortMemory.number() == 6
-            && Refusal::NoEarlierLine.number() == 12,
+            && Refusal::LineNotEarlier.number() == 12,
     )
 }

@@ -25,16 +25,18 @@ fn report(heap: Global) -> Result<String, AnyError> {
     };
     let lines = [Line::At(one), Line::At(two), Line::Until(0, 1)];
     let n = machine.count();
-    let mut rows = vec![in heap; 0u8; 3 * n]?;
-    if evaluate(&machine, &Flags {}, &lines, &mut rows).is_err() {
-        return Err("the formula is refused".into());
+    let mut rows = vec![in heap; 0u8; lines.len() * n]?;
+    match evaluate(&machine, &Flags {}, &lines, &mut rows) {
+        Ok(()) => Ok(text::holds_lines(heap, &rows[(lines.len() - 1) * n..])?),
+        Err(_) => Err("the formula is refused".into()),
     }
-    Ok(text::holds_lines(heap, &rows[2 * n..])?)
+}
+
+fn run(rt: &LibcRuntime) -> Result<(), AnyError> {
+    rt.print(report(rt.alloc())?)?;
+    Ok(())
 }
 
 fn main(rt: LibcRuntime) -> Result<(), AnyError> {
-    match report(rt.alloc()) {
-        Ok(lines) => Ok(rt.print(lines)?),
-        Err(e) => rt.report(Err(e)),
-    }
+    rt.report(run(&rt))
 }

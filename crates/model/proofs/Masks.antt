@@ -10,7 +10,7 @@ use Rattle.std.specs.Orderings.{Decides}
 use Rattle.std.proofs.shelf.Bits.{mod-below, shr-shr}
 use Rattle.std.proofs.shelf.Ways.{tells, decides-below-and, same-from-decides, decides-eqb, decides-like}
 use Rattle.model.specs.declared.flags.FlagSet.{FlagSet}
-use Rattle.model.specs.Orders.{has, within, flags, Within, flagCount}
+use Rattle.model.specs.Orders.{has, within, flagsAtMost, Within, flagCount}
 
 -- the bit i of n
 abbrev bit : ℕ → ℕ → Bool
@@ -51,10 +51,10 @@ implied-as-holds false y = (λ _ h. absurd h, λ _. refl)
 within-says : {P : ℕ → Type 0} (a b : FlagSet) → ((i : ℕ) → Decides (not (has a i) || has b i) (P i)) → (k : ℕ) → Decides (within k a b) ((i : ℕ) → i < k → P i)
 within-says {P} a b each = decides-below-and (λ i. not (has a i) || has b i) P (λ k. within k a b) each refl (λ _. refl)
 
-pub flags-mean : (a b : FlagSet) → Decides (flags a b) (Within a b)
+pub flags-mean : (a b : FlagSet) → Decides (flagsAtMost a b) (Within a b)
 flags-mean a b = within-says a b (λ i. implied-as-holds (has a i) (has b i)) flagCount
 
-pub masked : (a b : FlagSet) → a .bits < 2 ^ 32 → b .bits < 2 ^ 32 → eqb (bitAnd (a .bits) (b .bits)) (a .bits) ≡ flags a b
+pub masked : (a b : FlagSet) → a .bits < 2 ^ 32 → b .bits < 2 ^ 32 → eqb (bitAnd (a .bits) (b .bits)) (a .bits) ≡ flagsAtMost a b
 masked a b p q =
     same-from-decides _ _
     (decides-eqb (bitAnd (a .bits) (b .bits)) (a .bits))

@@ -1,21 +1,20 @@
--- Tables, traces and pairs of machines are bounded. Assumes nothing.
+-- Tables, traces and pairs of machines are bounded. Assumes noStates.
 use mathlib.Core.List.{List}
-use mathlib.Core.Bool.{Bool, true, false, cond, _&&_}
-use mathlib.Core.Path.{_≡_, subst, sym}
+use mathlib.Core.Bool.{Bool, _&&_}
 use Prim.Native.Nat.{ℕ, _+_, _-_, _<_, _≤_}
 use native.Mathlib.Omega.{arith}
 use lib.Dec.{T, ltb, leb, leb→le, ltb→lt}
 use lib.ListN.{length, length-append}
 use Rattle.std.proofs.shelf.Tests.{leb-true, ltb-false, cond-both}
-use Rattle.model.specs.Machines.{Meaning, Step, Bounded, states, stateBound, nothing, between, tabled, traced, joined, beside}
+use Rattle.model.specs.Machines.{Meaning, Bounded, states, stateBound, noStates, areStates, tabled, traced, joined, besideMeaning}
 use Rattle.model.specs.OrderLaws.{first-holds, second-holds}
 
 module _ {L : Type 0} where
-  nothing-bounded : Bounded {L = L} nothing
+  nothing-bounded : Bounded {L = L} noStates
   nothing-bounded = record { few = omega arith; inside = λ s t h. absurd h }
 
   -- Steps that are tested to lead from state to state do.
-  tested-bounded : (ls : List L) (more : ℕ → ℕ → Bool) → length ls ≤ stateBound → Bounded (record { labels = ls; step = λ s t. between (length ls) s t && more s t })
+  tested-bounded : (ls : List L) (more : ℕ → ℕ → Bool) → length ls ≤ stateBound → Bounded (record { labels = ls; step = λ s t. areStates (length ls) s t && more s t })
   tested-bounded ls more few = record {
     few = few;
     inside = λ s t h.
@@ -49,6 +48,6 @@ module _ {L : Type 0} where
         record { from-state = simp length-append (w .0); to-state = simp length-append (w .1); there = h };
   }
 
-  pub beside-bounded : {m n : Meaning L} → Bounded m → Bounded n → Bounded (beside m n)
+  pub beside-bounded : {m n : Meaning L} → Bounded m → Bounded n → Bounded (besideMeaning m n)
   beside-bounded {m} {n} p q =
-      cond-both _ (joined m n) nothing (λ x. Bounded x) (λ e. joined-bounded m n p q (leb-true _ _ e)) (λ _. nothing-bounded)
+      cond-both _ (joined m n) noStates (λ x. Bounded x) (λ e. joined-bounded m n p q (leb-true _ _ e)) (λ _. nothing-bounded)

@@ -1,4 +1,4 @@
--- Each order keeps the two laws, whatever stands below it. Assumes nothing.
+-- Each order keeps the two laws, whatever stands below it: proofs that the traits' members name. Assumes nothing.
 use mathlib.Core.Bool.{Bool, true, false, _&&_, _||_, not}
 use Prim.Native.Nat.{ℕ, zero, suc}
 use native.Mathlib.Omega.{arith}
@@ -7,8 +7,7 @@ use lib.IntN.{ℤ}
 use lib.Signed.{leZ, leZ-yes, _≤ℤ_, ≤ℤ-refl}
 use Rattle.std.proofs.shelf.Signed.{ints}
 use Rattle.model.specs.declared.flags.FlagSet.{FlagSet}
-use Rattle.model.specs.declared.band.Span.{Span}
-use Rattle.model.specs.Orders.{Preorder, has, within, flags, flagCount, band, turned, exact, both}
+use Rattle.model.specs.Orders.{Preorder, has, within, flagsAtMost, flagCount, bandAtMost, turnedAtMost, exactAtMost, bothAtMost}
 
 -- Two tests that hold, and their parts.
 pub both-hold : (x y : Bool) → T x → T y → T (x && y)
@@ -44,7 +43,7 @@ within-through (suc k) a b c p q =
     (implied-through (has a k) (has b k) (has c k) (first-holds _ _ p) (first-holds _ _ q))
     (within-through k a b c (second-holds _ _ p) (second-holds _ _ q))
 
-pub flags-lawful : Preorder flags
+pub flags-lawful : Preorder flagsAtMost
 flags-lawful = record { reflexive = within-self flagCount; transitive = within-through flagCount }
 
 -- A lawful order on what two functions take out of a label is lawful on the labels.
@@ -57,13 +56,13 @@ pulled-lawful f g p q = record {
       (q .transitive (g a) (g b) (g c) (second-holds _ _ x) (second-holds _ _ y));
 }
 
-pub turned-lawful : {L : Type 0} {atMost : L → L → Bool} → Preorder atMost → Preorder (turned atMost)
+pub turned-lawful : {L : Type 0} {atMost : L → L → Bool} → Preorder atMost → Preorder (turnedAtMost atMost)
 turned-lawful p = record { reflexive = p .reflexive; transitive = λ a b c x y. p .transitive c b a y x }
 
-pub exact-lawful : {L : Type 0} {atMost : L → L → Bool} → Preorder atMost → Preorder (exact atMost)
+pub exact-lawful : {L : Type 0} {atMost : L → L → Bool} → Preorder atMost → Preorder (exactAtMost atMost)
 exact-lawful p = pulled-lawful (λ a. a) (λ a. a) p (turned-lawful p)
 
-pub both-lawful : {K L : Type 0} {one : K → K → Bool} {other : L → L → Bool} → Preorder one → Preorder other → Preorder (both one other)
+pub both-lawful : {K L : Type 0} {one : K → K → Bool} {other : L → L → Bool} → Preorder one → Preorder other → Preorder (bothAtMost one other)
 both-lawful p q = pulled-lawful (λ a. a .0) (λ a. a .1) p q
 
 leZ-through : (a b c : ℤ) → a ≤ℤ b → b ≤ℤ c → a ≤ℤ c
@@ -75,5 +74,5 @@ leZ-lawful = record {
   transitive = λ a b c p q. leZ-through a b c (leZ-yes p) (leZ-yes q) .le;
 }
 
-pub band-lawful : Preorder band
+pub band-lawful : Preorder bandAtMost
 band-lawful = pulled-lawful (λ a. a .low) (λ a. a .high) leZ-lawful (turned-lawful leZ-lawful)

@@ -25,25 +25,25 @@ within zero a b = true
 within (suc k) a b = (not (has a k) || has b k) && within k a b
 
 -- Flags: every flag of a is in b.
-abbrev pub flags : FlagSet → FlagSet → Bool
-flags a b = within flagCount a b
+abbrev pub flagsAtMost : FlagSet → FlagSet → Bool
+flagsAtMost a b = within flagCount a b
 
 -- The same as a statement.
 abbrev pub Within : FlagSet → FlagSet → Type 0
 Within a b = (i : ℕ) → i < flagCount → T (has a i) → T (has b i)
 
 -- Band: b lies inside a, ends included.
-abbrev pub band : Span → Span → Bool
-band a b = leZ (a .low) (b .low) && leZ (b .high) (a .high)
+abbrev pub bandAtMost : Span → Span → Bool
+bandAtMost a b = leZ (a .low) (b .low) && leZ (b .high) (a .high)
 
 -- Turned: b is at most a in the order below.
-abbrev pub turned : {L : Type 0} → (L → L → Bool) → L → L → Bool
-turned atMost a b = atMost b a
+abbrev pub turnedAtMost : {L : Type 0} → (L → L → Bool) → L → L → Bool
+turnedAtMost atMost a b = atMost b a
 
 -- Exact: a is at most b, and b at most a, in the order below.
-abbrev pub exact : {L : Type 0} → (L → L → Bool) → L → L → Bool
-exact atMost a b = atMost a b && atMost b a
+abbrev pub exactAtMost : {L : Type 0} → (L → L → Bool) → L → L → Bool
+exactAtMost atMost a b = atMost a b && atMost b a
 
 -- Both: labels are pairs, and each part is at most its like.
-abbrev pub both : {K L : Type 0} → (K → K → Bool) → (L → L → Bool) → K × L → K × L → Bool
-both one other a b = one (a .0) (b .0) && other (a .1) (b .1)
+abbrev pub bothAtMost : {K L : Type 0} → (K → K → Bool) → (L → L → Bool) → K × L → K × L → Bool
+bothAtMost one other a b = one (a .0) (b .0) && other (a .1) (b .1)

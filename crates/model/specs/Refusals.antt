@@ -6,11 +6,11 @@ use Rattle.std.specs.declared.option.Option.the-variants.{None, Some}
 use Rattle.std.specs.declared.result.Result.{Result}
 use Rattle.std.specs.declared.result.Result.the-variants.{Ok, Err}
 use Rattle.model.specs.declared.refusal.Refusal.{Refusal}
-use Rattle.model.specs.declared.refusal.Refusal.the-variants.{ShortMemory, NoEarlierLine}
+use Rattle.model.specs.declared.refusal.Refusal.the-variants.{ShortMemory, LineNotEarlier}
 
 abbrev pub numberOf : Refusal → ℕ
 numberOf ShortMemory = 6
-numberOf NoEarlierLine = 12
+numberOf LineNotEarlier = 12
 
 -- The answer is a refusal with this number.
 abbrev pub Refused : {A : Type 0} → ℕ → Result A Refusal → Type 0

@@ -1,6 +1,7 @@
 //! Labels that are bands of numbers.
 use crate::order::Order;
-ghost use Rattle.model.specs.Orders.{band as inside};
+ghost use mathlib.Core.Path.{_≡_};
+ghost use Rattle.model.specs.Orders.{bandAtMost};
 ghost use Rattle.model.specs.OrderLaws.{band-lawful};
 
 /// The numbers from `low` to `high`. A low above its high is compared as any other.
@@ -17,11 +18,13 @@ pub struct Band {}
 pub impl Order for Band as BandOrder {
     type Label = Span;
 
-    ghost relation = { λ _. inside };
+    ghost relation = { λ _. bandAtMost };
 
     ghost lawful = { λ _. band-lawful };
 
-    fn at_most(&self, a: &Span, b: &Span) -> bool {
+    fn at_most(&self, a: &Span, b: &Span) -> bool
+        ensures { λ r. ⌜ r ≡ bandAtMost (now (a .entry)) (now (b .entry)) ⌝ }
+    {
         a.low <= b.low && b.high <= a.high
     }
 }

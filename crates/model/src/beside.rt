@@ -1,7 +1,8 @@
 //! Two machines as one.
 use crate::machine::Machine;
 use crate::machine::STATE_BOUND;
-ghost use Rattle.model.specs.Machines.{beside as side-by-side};
+ghost use mathlib.Core.Path.{_≡_};
+ghost use Rattle.model.specs.Machines.{states, labelOf, besideMeaning};
 ghost use Rattle.model.specs.MachineLaws.{beside-bounded};
 
 /// The left's states under their own numbers, then the right's, with no step across.
@@ -15,16 +16,20 @@ pub struct Beside<A, B> {
 pub impl<A: Machine, B: Machine<Label = A::Label>> Machine for Beside<A, B> as BesideMachine {
     type Label = A::Label;
 
-    ghost meaning = { λ m. side-by-side (A·Machine .meaning (m .left)) (B·Machine .meaning (m .right)) };
+    ghost meaning = { λ m. besideMeaning (A·Machine .meaning (m .left)) (B·Machine .meaning (m .right)) };
 
     ghost bounded = { λ m. beside-bounded (A·Machine .bounded (m .left)) (B·Machine .bounded (m .right)) };
 
-    fn count(&self) -> usize {
+    fn count(&self) -> usize
+        ensures { λ r. ⌜ r ≡ states (besideMeaning (A·Machine .meaning (now (self .entry) .left)) (B·Machine .meaning (now (self .entry) .right))) ⌝ }
+    {
         let n = self.left.count() + self.right.count();
         if n <= STATE_BOUND { n } else { 0 }
     }
 
-    fn label(&self, s: usize) -> Option<A::Label> {
+    fn label(&self, s: usize) -> Option<A::Label>
+        ensures { λ r. ⌜ r ≡ labelOf (besideMeaning (A·Machine .meaning (now (self .entry) .left)) (B·Machine .meaning (now (self .entry) .right))) s ⌝ }
+    {
         let n = self.left.count();
         if n + self.right.count() > STATE_BOUND {
             None
@@ -35,7 +40,9 @@ pub impl<A: Machine, B: Machine<Label = A::Label>> Machine for Beside<A, B> as B
         }
     }
 
-    fn has_step(&self, s: usize, t: usize) -> bool {
+    fn has_step(&self, s: usize, t: usize) -> bool
+        ensures { λ r. ⌜ r ≡ (besideMeaning (A·Machine .meaning (now (self .entry) .left)) (B·Machine .meaning (now (self .entry) .right))) .step s t ⌝ }
+    {
         let n = self.left.count();
         if n + self.right.count() > STATE_BOUND {
             false

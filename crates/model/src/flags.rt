@@ -2,7 +2,7 @@
 use crate::order::Order;
 ghost use mathlib.Core.Path.{_≡_};
 ghost use Rattle.std.specs.Orderings.{Decides};
-ghost use Rattle.model.specs.Orders.{flags as every-flag, Within};
+ghost use Rattle.model.specs.Orders.{flagsAtMost, Within};
 ghost use Rattle.model.specs.OrderLaws.{flags-lawful};
 
 /// A set of 32 flags: flag i is in it where bit i is set.
@@ -14,7 +14,7 @@ pub struct FlagSet {
 impl FlagSet {
     /// Whether every flag of this set is in `other`.
     pub fn is_within(self, other: FlagSet) -> bool
-        ensures test { λ r. ⌜ r ≡ every-flag self other ⌝ }
+        ensures test { λ r. ⌜ r ≡ flagsAtMost self other ⌝ }
         ensures means { λ r. ⌜ Decides r (Within self other) ⌝ }
     {
         self.bits & other.bits == self.bits
@@ -28,11 +28,13 @@ pub struct Flags {}
 pub impl Order for Flags as FlagsOrder {
     type Label = FlagSet;
 
-    ghost relation = { λ _. every-flag };
+    ghost relation = { λ _. flagsAtMost };
 
     ghost lawful = { λ _. flags-lawful };
 
-    fn at_most(&self, a: &FlagSet, b: &FlagSet) -> bool {
+    fn at_most(&self, a: &FlagSet, b: &FlagSet) -> bool
+        ensures { λ r. ⌜ r ≡ flagsAtMost (now (a .entry)) (now (b .entry)) ⌝ }
+    {
         a.is_within(*b)
     }
 }

@@ -5,7 +5,7 @@ ghost use Rattle.model.specs.Machines.{Meaning, Bounded, states, labelOf};
 /// The most states that a machine may have.
 pub const STATE_BOUND: usize = 64;
 
-/// The number of a state where it is kept in memory: in a walk, one to a place.
+/// A state's number as memory holds it: one to a place of a walk.
 pub type State = u8;
 
 /// A machine, by its answers. Its states are the numbers below its count.

@@ -3,7 +3,7 @@ ghost use mathlib.Core.Path.{_≡_};
 ghost use mathlib.Core.Bool.{Bool};
 ghost use Rattle.model.specs.Orders.{Preorder};
 
-/// An order on labels. Its value is what it means, so it is passed along with what it compares.
+/// An order on labels. It may carry settings, so it is a value and is passed by reference.
 pub trait Order {
     type Label: Copy;
 

@@ -8,17 +8,17 @@ pub enum Refusal {
     /// Memory that was handed in is too short.
     ShortMemory,
     /// A line of a formula names a line that does not come before it.
-    NoEarlierLine,
+    LineNotEarlier,
 }
 
 impl Refusal {
-    /// The number by which documents and printed lines name the cause.
+    /// The number by which the documents name the cause.
     pub fn number(self) -> u8
         ensures { λ r. ⌜ r ≡ numberOf self ⌝ }
     {
         match self {
             Refusal::ShortMemory => 6,
-            Refusal::NoEarlierLine => 12,
+            Refusal::LineNotEarlier => 12,
         }
     }
 }

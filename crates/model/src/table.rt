@@ -6,7 +6,7 @@ ghost use mathlib.Core.Path.{_≡_};
 ghost use Prim.Native.Nat.{_*_, _≤_};
 ghost use lib.ListN.{length};
 ghost use denote.Ref.{now};
-ghost use Rattle.model.specs.Machines.{stateBound, tabled, tableFits, table as table-of};
+ghost use Rattle.model.specs.Machines.{stateBound, states, labelOf, tabled, tableFits, tableMeaning};
 ghost use Rattle.model.specs.MachineLaws.{tabled-bounded};
 
 /// n labels and n×n bytes, borrowed: a step from s to t where the byte at s×n+t is not zero.
@@ -29,7 +29,7 @@ impl<'a, L> Table<'a, L> {
 
     /// Takes up a table. One that does not fit gives the machine of no states.
     pub fn new(labels: &'a [L], steps: &'a [u8]) -> Table<'a, L>
-        ensures { λ r. ⌜ tabled (now (r .labels)) (now (r .steps)) ≡ table-of (now (labels .entry)) (now (steps .entry)) ⌝ }
+        ensures { λ r. ⌜ tabled (now (r .labels)) (now (r .steps)) ≡ tableMeaning (now (labels .entry)) (now (steps .entry)) ⌝ }
     {
         if Table::fits(labels, steps) {
             Table { labels, steps }
@@ -49,15 +49,21 @@ pub impl<'a, L: Copy> Machine for Table<'a, L> as TableMachine {
 
     ghost bounded = { λ m. tabled-bounded (now (m .labels)) (now (m .steps)) (m .few) };
 
-    fn count(&self) -> usize {
+    fn count(&self) -> usize
+        ensures { λ r. ⌜ r ≡ states (tabled (now (now (self .entry) .labels)) (now (now (self .entry) .steps))) ⌝ }
+    {
         self.labels.len()
     }
 
-    fn label(&self, s: usize) -> Option<L> {
+    fn label(&self, s: usize) -> Option<L>
+        ensures { λ r. ⌜ r ≡ labelOf (tabled (now (now (self .entry) .labels)) (now (now (self .entry) .steps))) s ⌝ }
+    {
         label_at(self.labels, s)
     }
 
-    fn has_step(&self, s: usize, t: usize) -> bool {
+    fn has_step(&self, s: usize, t: usize) -> bool
+        ensures { λ r. ⌜ r ≡ (tabled (now (now (self .entry) .labels)) (now (now (self .entry) .steps))) .step s t ⌝ }
+    {
         let n = self.labels.len();
         s < n && t < n && self.steps[s * n + t] != 0
     }

@@ -7,13 +7,13 @@ use lib.Dec.{eqb}
 use lib.ListN.{getD}
 use Rattle.std.specs.Written.{decimal}
 
-abbrev pub word : Bool → List ℕ
-word true = codes "yes"
-word false = codes "no"
+abbrev pub yesOrNo : Bool → List ℕ
+yesOrNo true = codes "yes"
+yesOrNo false = codes "no"
 
 -- (holds 3 yes), and its newline
 abbrev pub holdsLine : ℕ → Bool → List ℕ
-holdsLine s there = codes "(holds " ++ (decimal s ++ (codes " " ++ (word there ++ codes ")\n")))
+holdsLine s there = codes "(holds " ++ (decimal s ++ (codes " " ++ (yesOrNo there ++ codes ")\n")))
 
 -- A line for each of the first n states, with yes where the byte of the state is not zero.
 abbrev pub holdsLines : List ℕ → ℕ → List ℕ

@@ -3,12 +3,12 @@ ghost use mathlib.Core.Path.{_≡_};
 ghost use lib.ListN.{length};
 ghost use Rattle.std.specs.Of.String.{string-bytes};
 ghost use Rattle.std.specs.Vec.{made};
-ghost use Rattle.text.specs.Printed.{word, holdsLine, holdsLines};
+ghost use Rattle.text.specs.Printed.{yesOrNo, holdsLine, holdsLines};
 use std::alloc::AllocError;
 use std::alloc::Global;
 
 fn yes_or_no(yes: bool) -> &'static str
-    ensures { λ r. ⌜ now r ≡ word yes ⌝ }
+    ensures { λ r. ⌜ now r ≡ yesOrNo yes ⌝ }
 {
     if yes { "yes" } else { "no" }
 }

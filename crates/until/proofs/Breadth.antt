@@ -1,7 +1,7 @@
 -- What the breadth-first search keeps true of the numbers in its arrays, turn by turn. Assumes nothing.
 use mathlib.Core.Path.{_≡_, refl, sym, ap, subst, _∙_}
 use mathlib.Core.Logic.{_⊎_, inl, inr, ⊎-elim}
-use mathlib.Core.Bool.{Bool, true, false, cond}
+use mathlib.Core.Bool.{cond}
 use mathlib.Core.List.{List, [], _∷_}
 use Prim.Native.Nat.{ℕ, zero, suc, _+_, _<_, _≤_}
 use native.Mathlib.Omega.{arith}
@@ -15,7 +15,7 @@ use Rattle.until.specs.Walks.{stop, steps}
 use Rattle.until.specs.Explored.{To, Found}
 use Rattle.until.proofs.Walks.{walk-on, walk-last}
 
--- 1 at a distance that is set
+-- 1 where a distance is set, so that the sum counts the states that are reached
 abbrev pub taken : ℕ → ℕ
 taken d = cond (ltb d stateBound) 1 0
 
@@ -26,22 +26,28 @@ pub taken-all : (xs : List ℕ) → sumBy taken xs ≤ length xs
 taken-all [] = omega arith
 taken-all (x ∷ xs) = omega (arith, sumBy-cons taken x xs, taken-le x, taken-all xs)
 
--- one more is set
+-- one more is reached
 pub taken-set : (xs : List ℕ) (t v : ℕ) → t < length xs → getD xs t 0 ≡ stateBound → v < stateBound → sumBy taken (set xs t v) ≡ sumBy taken xs + 1
 taken-set xs t v l e h =
     let was : taken (getD xs t 0) ≡ 0 = cond-false (ltb (getD xs t 0) stateBound) 1 0 (le-ltb (getD xs t 0) stateBound (omega arith)) in
     let now : taken v ≡ 1 = cond-true (ltb v stateBound) 1 0 (lt-ltb v stateBound h) in
     omega (arith, sumBy-set taken xs t v 0 l, was, now)
 
+-- The queue `order` holds the reached states in the order of their distances; those before `head` are done with.
 pub record Going (n : ℕ) (S : ℕ → ℕ → Type 0) (ok : ℕ → Type 0) (s : ℕ) (dist from order : ℕ → ℕ) (head tail : ℕ) : Type 0 where
   pub bounded : n ≤ stateBound
   pub room : tail ≤ n
   pub start : dist s ≡ 0
+  -- what is queued is a state, and no farther away than its place
   pub queued : (i : ℕ) → i < tail → (order i < n) × (dist (order i) ≤ i)
   pub sorted : (i j : ℕ) → i ≤ j → j < tail → dist (order i) ≤ dist (order j)
+  -- what is reached is queued
   pub placed : (u : ℕ) → u < n → dist u < stateBound → (i : ℕ) × (i < tail) × (order i ≡ u)
+  -- nothing is more than a step farther than the first of the queue
   pub near : (u : ℕ) → u < n → dist u < stateBound → head < tail → dist u ≤ dist (order head) + 1
+  -- from leads back to the start, a step at a time
   pub back : (u : ℕ) → u < n → dist u < stateBound → ((u ≡ s) × (dist u ≡ 0)) ⊎ ((from u < n) × (dist (from u) + 1 ≡ dist u) × ok (from u) × S (from u) u)
+  -- each step from a state that is done with leads to one that is reached
   pub closed : (i : ℕ) → i < head → ok (order i) → (t : ℕ) → S (order i) t → (dist t < stateBound) × (dist t ≤ dist (order i) + 1)
 
 -- the queue holds the start alone
@@ -50,8 +56,7 @@ pub going-start : {n : ℕ} {S : ℕ → ℕ → Type 0} {ok : ℕ → Type 0} {
     → Going n S ok s dist from order 0 1
 going-start {n = n} {s = s} {dist = dist} {order = order} bounded within d none o =
     let only : (u : ℕ) → u < n → dist u < stateBound → u ≡ s = λ u l h. ⊎-elim (λ e. e) (λ ne. absurd (omega (arith, none u l ne))) (cases-eq u s) in
-    let first : (i : ℕ) → i < 1 → (order i ≡ s) × (dist (order i) ≡ 0) = λ i h.
-    let e : order i ≡ s = ap order (omega arith) ∙ o in (e, ap dist e ∙ d) in
+    let first : (i : ℕ) → i < 1 → (order i ≡ s) × (dist (order i) ≡ 0) = λ i h. let e : order i ≡ s = ap order (omega arith) ∙ o in (e, ap dist e ∙ d) in
     record {
       bounded = bounded;
       room = omega arith;

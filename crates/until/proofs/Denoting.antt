@@ -8,28 +8,28 @@ use native.Mathlib.Omega.{arith}
 use lib.Dec.{T, eqb}
 use lib.ListN.{length, getD, take, drop}
 use Rattle.std.proofs.shelf.Lists.{getD-take, getD-drop, take-more, length-append}
-use Rattle.model.specs.Machines.{Meaning, states, Step}
+use Rattle.model.specs.Machines.{Meaning, states}
 use Rattle.until.specs.declared.formula.Line.{Line}
 use Rattle.until.specs.declared.formula.Line.the-variants.{True, At, And, Until}
-use Rattle.until.specs.Walks.{Walk, stop, go}
 use Rattle.until.specs.Searches.{Marked}
 use Rattle.until.specs.Formulas.{Formula, truth, Holds}
-use Rattle.until.specs.Lines.{Says, formulaOf, after, formulas, namesEarlier}
+use Rattle.until.specs.Lines.{Says, formulaOf, formulasFrom, formulas, namesEarlier}
 use Rattle.until.specs.Filled.{rowOf, HoldsBy, Rows}
+use Rattle.until.proofs.Walks.{walk-map}
 use Rattle.until.proofs.Lines.{two-earlier}
 
 module _ {L : Type 0} where
-  after-append : (fs : List (Formula L)) (ls ms : List (Line L)) → after fs (ls ++ ms) ≡ after (after fs ls) ms
-  after-append fs [] ms = refl
-  after-append fs (l ∷ ls) ms = after-append (fs ++ formulaOf fs l ∷ []) ls ms
+  from-append : (fs : List (Formula L)) (ls ms : List (Line L)) → formulasFrom fs (ls ++ ms) ≡ formulasFrom (formulasFrom fs ls) ms
+  from-append fs [] ms = refl
+  from-append fs (l ∷ ls) ms = from-append (fs ++ formulaOf fs l ∷ []) ls ms
 
-  pub length-after : (fs : List (Formula L)) (ls : List (Line L)) → length (after fs ls) ≡ length fs + length ls
-  length-after fs [] = omega arith
-  length-after fs (l ∷ ls) = omega (arith, length-after (fs ++ formulaOf fs l ∷ []) ls, length-append fs (formulaOf fs l ∷ []))
+  pub length-from : (fs : List (Formula L)) (ls : List (Line L)) → length (formulasFrom fs ls) ≡ length fs + length ls
+  length-from fs [] = omega arith
+  length-from fs (l ∷ ls) = omega (arith, length-from (fs ++ formulaOf fs l ∷ []) ls, length-append fs (formulaOf fs l ∷ []))
 
   -- one line more denotes one formula more
   pub formulas-more : (ls : List (Line L)) (k : ℕ) (d : Line L) → k < length ls → formulas (take (k + 1) ls) ≡ formulas (take k ls) ++ formulaOf (formulas (take k ls)) (getD ls k d) ∷ []
-  formulas-more ls k d h = ap formulas (take-more ls k d h) ∙ after-append [] (take k ls) (getD ls k d ∷ [])
+  formulas-more ls k d h = ap formulas (take-more ls k d h) ∙ from-append [] (take k ls) (getD ls k d ∷ [])
 
 pub says-like : {P Q : Type 0} (byte : ℕ) → (P → Q) → (Q → P) → Says byte P → Says byte Q
 says-like byte f g says = ⊎-elim (λ p. inl (p .0, f (p .1))) (λ p. inr (p .0, λ q. p .1 (g q))) says
@@ -41,11 +41,6 @@ says-marked byte says =
     (λ p. (λ _. p .1, λ _. subst (λ b. T (not (eqb b 0))) (sym (p .0)) tt))
     (λ p. (λ h. absurd (subst (λ b. T (not (eqb b 0))) (p .0) h), λ q. absurd (p .1 q)))
     says
-
--- conditions that agree at every state give the same walks
-pub walk-map : {L : Type 0} (m : Meaning L) {P Q P′ Q′ : ℕ → Type 0} (f : (u : ℕ) → u < states m → P u → P′ u) (g : (u : ℕ) → u < states m → Q u → Q′ u) {t : ℕ} → t < states m → Walk (Step m) P Q t → Walk (Step m) P′ Q′ t
-walk-map m f g h (stop {t = t} q) = stop (g t h q)
-walk-map m f g h (go {t = t} p e w) = go (f t h p) e (walk-map m f g (e .to-state) w)
 
 module _ {L : Type 0} (atMost : L → L → Bool) (m : Meaning L) (fs : List (Formula L)) (rows : List ℕ) (said : Rows atMost m fs rows) where
   row-marked : (i : ℕ) → i < length fs → (s : ℕ) → s < states m → (Marked (rowOf (states m) rows i) s → Holds atMost m (getD fs i truth) s) × (Holds atMost m (getD fs i truth) s → Marked (rowOf (states m) rows i) s)

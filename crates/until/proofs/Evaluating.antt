@@ -7,16 +7,16 @@ use Prim.Native.Nat.{ℕ, _+_, _-_, _*_, _<_, _≤_}
 use native.Mathlib.Omega.{arith}
 use lib.Dec.{T}
 use lib.ListN.{length, getD, take, drop}
-use Rattle.std.proofs.shelf.Lists.{length-append, length-take-le, take-all, drop-drop, getD-take, getD-append-left, getD-push}
+use Rattle.std.proofs.shelf.Lists.{length-take-le, take-all, drop-drop, getD-take, getD-append-left, getD-push}
 use Rattle.std.proofs.shelf.Bits.{mul-add-lt}
 use Rattle.std.proofs.shelf.Tests.{cases-eq}
 use Rattle.model.specs.Machines.{Meaning, states}
 use Rattle.until.specs.declared.formula.Line.{Line}
 use Rattle.until.specs.Formulas.{Formula, truth, Holds}
-use Rattle.until.specs.Lines.{Says, formulaOf, formulas, denoted, namesEarlier, Evaluated}
-use Rattle.until.specs.Filled.{HoldsBy, Filled, Rows}
+use Rattle.until.specs.Lines.{Says, formulaOf, formulas, namesEarlier, Evaluated}
+use Rattle.until.specs.Filled.{Filled, Rows}
 use Rattle.until.proofs.Lines.{row-room}
-use Rattle.until.proofs.Denoting.{length-after, formulas-more, says-like, holds-by}
+use Rattle.until.proofs.Denoting.{length-from, formulas-more, says-like, holds-by}
 
 -- what two lists share from a place on, they share from any later one
 drop-later : {X : Type 0} (xs ys : List X) (i j : ℕ) → i ≤ j → drop i xs ≡ drop i ys → drop j xs ≡ drop j ys
@@ -35,11 +35,8 @@ module _ {L : Type 0} (atMost : L → L → Bool) (m : Meaning L) (lines : List 
     pub said : Rows atMost m (formulas (take k lines)) bytes
     pub rest : drop (length lines * states m) bytes ≡ drop (length lines * states m) before
 
-  pub evaluating-none : Evaluating before 0
-  evaluating-none = record { long = refl; said = λ k s l. absurd (omega arith); rest = refl }
-
   formulas-length : (k : ℕ) → k ≤ length lines → length (formulas (take k lines)) ≡ k
-  formulas-length k h = length-after [] (take k lines) ∙ omega (arith, length-take-le k lines h)
+  formulas-length k h = length-from [] (take k lines) ∙ omega (arith, length-take-le k lines h)
 
   module _ {bytes bytes′ : List ℕ} {k : ℕ} {line : Line L} (ev : Evaluating bytes k) (low : k < length lines) (is : line ≡ getD lines k line)
       (earlier : T (namesEarlier k line)) (filled : Filled atMost m line k bytes bytes′) (same : length bytes′ ≡ length bytes) where

@@ -9,7 +9,7 @@ use native.Mathlib.Omega.{arith}
 use lib.ListN.{length, getD, set, take, drop}
 use Rattle.std.specs.Orderings.{Decides}
 use Rattle.std.proofs.shelf.Lists.{length-set, take-set-le, drop-set-lt, getD-set-same, getD-set-other}
-use Rattle.std.proofs.shelf.Tests.{cases-eq, true≢false, false≢true}
+use Rattle.std.proofs.shelf.Tests.{cases-eq, false≢true}
 use Rattle.model.specs.Machines.{Meaning, states}
 use Rattle.until.specs.declared.formula.Line.{Line}
 use Rattle.until.specs.Lines.{Says}

@@ -1,14 +1,14 @@
 -- A walk written from its end, state by state, along `from`. Assumes nothing.
-use mathlib.Core.Path.{_≡_, refl, sym, ap, subst, _∙_}
+use mathlib.Core.Path.{_≡_, refl, sym, ap, _∙_}
 use mathlib.Core.Logic.{⊎-elim}
 use mathlib.Core.List.{List, _∷_, _++_}
-use Prim.Native.Nat.{ℕ, suc, _+_, _-_, _<_, _≤_}
+use Prim.Native.Nat.{ℕ, _+_, _-_, _<_, _≤_}
 use native.Mathlib.Omega.{arith}
 use lib.ListN.{length, set, drop}
 use Rattle.std.proofs.shelf.Lists.{length-set, drop-set, drop-set-lt}
 use Rattle.model.specs.Machines.{Meaning, Step, states, stateBound}
 use Rattle.until.specs.Walks.{Walk, stop, go, steps, visited}
-use Rattle.until.specs.Searches.{Marked, Over, OverFrom, Written}
+use Rattle.until.specs.Searches.{Marked, WalkOver, WalkFromState, Written}
 use Rattle.until.specs.Explored.{Found, Closest}
 use Rattle.until.proofs.Walks.{walk-last, walk-end, walk-within}
 
@@ -24,7 +24,7 @@ module _ {L : Type 0} (m : Meaning L) (row goal : List ℕ) (dist : ℕ → ℕ)
     pub part : left ≤ total
     pub low : total < stateBound
     pub room : total < length memory
-    pub walk : Over m row (Marked goal) cur
+    pub walk : WalkOver m row (Marked goal) cur
     pub long : steps walk + left ≡ total
     pub written : drop left memory ≡ visited walk ++ drop (total + 1) before
 
@@ -36,7 +36,7 @@ module _ {L : Type 0} (m : Meaning L) (row goal : List ℕ) (dist : ℕ → ℕ)
     part = omega arith;
     low = best .near;
     room = omega (arith, length-set before (dist last) last);
-    walk = stop (best .marked);
+    walk = stop (best .is-goal);
     long = omega arith;
     written = drop-set before (dist last) last room ∙ ap (λ xs. last ∷ xs) (sym (drop-set-lt (dist last + 1) before (dist last) last (omega arith)));
   }
@@ -82,7 +82,7 @@ module _ {L : Type 0} (m : Meaning L) (row goal : List ℕ) (dist : ℕ → ℕ)
   }
 
   pub no-trail : {s : ℕ} {from : ℕ → ℕ} → Found (states m) (Step m) (Marked row) s dist from
-      → ((v : ℕ) → v < states m → Marked goal v → stateBound ≤ dist v) → OverFrom m row (Marked goal) s → ⊥
+      → ((v : ℕ) → v < states m → Marked goal v → stateBound ≤ dist v) → WalkFromState m row (Marked goal) s → ⊥
   no-trail found none w =
       let e = walk-end (w .1) in
       omega (arith, found .least (e .0) (e .2) .0, none (e .0) (walk-within {n = states m} (λ a b st. st .to-state) (w .0) (e .2)) (e .1))

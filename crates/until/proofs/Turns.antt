@@ -1,8 +1,8 @@
--- The invariants of the search's two loops over its arrays, and their steps. Assumes nothing.
+-- The same over the arrays themselves: the invariants of the search's two loops, and their steps. Assumes nothing.
 use mathlib.Core.Path.{_≡_, refl, sym, ap, subst, _∙_}
-use mathlib.Core.Logic.{_⊎_, inl, inr, ⊎-elim}
+use mathlib.Core.Logic.{_⊎_, ⊎-elim}
 use mathlib.Core.List.{List}
-use Prim.Native.Nat.{ℕ, zero, suc, _+_, _<_, _≤_}
+use Prim.Native.Nat.{ℕ, _+_, _<_, _≤_}
 use native.Mathlib.Omega.{arith}
 use lib.ListN.{length, getD, set, replicate, take}
 use lib.Seq.{take-set-lt}
@@ -11,11 +11,12 @@ use Rattle.std.proofs.shelf.Tests.{cases-eq, cases-lt}
 use Rattle.std.proofs.shelf.Sums.{sumBy-take-le}
 use Rattle.std.proofs.shelf.Lists.{length-take, getD-take, length-set, getD-set-same, getD-set-other, getD-replicate, getD-past}
 use Rattle.model.specs.Machines.{stateBound}
-use Rattle.until.proofs.Breadth.{taken, taken-all, taken-set, Going, going-start, going-next, going-push, going-end}
+use Rattle.until.proofs.Breadth.{taken, taken-all, taken-set, Going, going-start, going-next, going-push}
 
 abbrev pub at : List ℕ → ℕ → ℕ
 at xs i = getD xs i 0
 
+-- Between turns of the queue. As many states are reached as are queued, so the queue has room for one that is not.
 pub record Outer (n : ℕ) (S : ℕ → ℕ → Type 0) (ok : ℕ → Type 0) (start : ℕ) (dist from order : List ℕ) (head tail : ℕ) : Type 0 where
   pub dist-long : length dist ≡ stateBound
   pub from-long : length from ≡ stateBound
@@ -25,7 +26,7 @@ pub record Outer (n : ℕ) (S : ℕ → ℕ → Type 0) (ok : ℕ → Type 0) (s
   pub most : (u : ℕ) → at dist u ≤ stateBound
   pub going : Going n S ok start (at dist) (at from) (at order) head tail
 
--- s, the first of the queue, is gone on from to each state below t
+-- Within a turn: s is the first of the queue, and its steps to the states below t are followed.
 pub record Inner (n : ℕ) (S : ℕ → ℕ → Type 0) (ok : ℕ → Type 0) (start : ℕ) (head s d : ℕ) (dist from order : List ℕ) (tail t : ℕ) : Type 0 where
   pub outer : Outer n S ok start dist from order head tail
   pub some : head < tail
@@ -33,7 +34,7 @@ pub record Inner (n : ℕ) (S : ℕ → ℕ → Type 0) (ok : ℕ → Type 0) (s
   pub far : at dist s + 1 ≡ d
   pub seen : (u : ℕ) → u < t → S s u → (at dist u < stateBound) × (at dist u ≤ d)
 
--- one more of the first n is set
+-- one more of the first n is reached
 taken-more : (n : ℕ) (xs : List ℕ) (t v : ℕ) → n ≤ length xs → t < n → at xs t ≡ stateBound → v < stateBound → sumBy taken (take n (set xs t v)) ≡ sumBy taken (take n xs) + 1
 taken-more n xs t v long l e h =
     let low : t < length (take n xs) = omega (arith, length-take n xs) in
@@ -81,9 +82,6 @@ module _ {n : ℕ} {S : ℕ → ℕ → Type 0} {ok : ℕ → Type 0} {start : �
         length-take n (set dist t 0),
         out .counted,
       )
-
-  pub outer-inner : (s : ℕ) → head < tail → at order head ≡ s → Inner n S ok start head s (at dist s + 1) dist from order tail 0
-  outer-inner s some e = record { outer = out; some = some; first = e; far = refl; seen = λ u h. absurd (omega arith) }
 
   -- the first of the queue may not be gone on from
   pub outer-skip : (s : ℕ) → head < tail → at order head ≡ s → (ok s → ⊥) → Outer n S ok start dist from order (head + 1) tail

@@ -1,7 +1,8 @@
--- Walks taken apart and put together at their ends. Assumes nothing.
+-- Walks taken apart, put together and mapped. Assumes nothing.
 use mathlib.Core.Path.{_≡_, refl, sym, ap, subst}
 use mathlib.Core.Logic.{_⊎_, inl, inr, ⊎-elim}
 use Prim.Native.Nat.{ℕ, suc, _<_}
+use Rattle.model.specs.Machines.{Meaning, states, Step}
 use Rattle.until.specs.Walks.{Walk, stop, go, steps}
 use Rattle.until.specs.Explored.{To}
 
@@ -34,3 +35,14 @@ module _ {S : ℕ → ℕ → Type 0} {ok : ℕ → Type 0} where
   pub walk-within : {n u s : ℕ} → ((a b : ℕ) → S a b → b < n) → s < n → To S ok s u → u < n
   walk-within {n} inside l (stop e) = subst (λ v. v < n) e l
   walk-within inside l (go {u = v} p e w) = walk-within inside (inside _ v e) w
+
+module _ {L : Type 0} (m : Meaning L) where
+  -- conditions that follow at every state give a walk again
+  pub walk-map : {P Q P′ Q′ : ℕ → Type 0} (f : (u : ℕ) → u < states m → P u → P′ u) (g : (u : ℕ) → u < states m → Q u → Q′ u) {t : ℕ} → t < states m → Walk (Step m) P Q t → Walk (Step m) P′ Q′ t
+  walk-map f g h (stop {t = t} q) = stop (g t h q)
+  walk-map f g h (go {t = t} p e w) = go (f t h p) e (walk-map f g (e .to-state) w)
+
+  -- a walk to where another begins is one walk
+  pub walk-join : {P Q : ℕ → Type 0} {t : ℕ} → Walk (Step m) P (λ u. Walk (Step m) P Q u) t → Walk (Step m) P Q t
+  walk-join (stop w) = w
+  walk-join (go p e w) = go p e (walk-join w)

@@ -13,8 +13,8 @@ use Rattle.until.specs.Searches.{Marked}
 abbrev pub To : (ℕ → ℕ → Type 0) → (ℕ → Type 0) → ℕ → ℕ → Type 0
 To S ok s u = Walk S ok (λ v. v ≡ u) s
 
--- Of each of n states, dist has the fewest steps of a walk that ends there, and the bound where there is none;
--- from has the state before it on such a walk.
+-- Of each of n states, dist has the fewest steps of a walk that ends there, or no number below the bound where there
+-- is none; from has the state before it on such a walk. The fewest are fewer than the states.
 pub record Found (n : ℕ) (S : ℕ → ℕ → Type 0) (ok : ℕ → Type 0) (s : ℕ) (dist from : ℕ → ℕ) : Type 0 where
   pub walks : (u : ℕ) → u < n → dist u < stateBound → (w : To S ok s u) × (steps w ≡ dist u)
   pub least : (u : ℕ) (w : To S ok s u) → (dist u < stateBound) × (dist u ≤ steps w)
@@ -28,7 +28,7 @@ Explores m row s dist from = Found (states m) (Step m) (Marked row) s (λ u. get
 -- The state u is a goal and reached, and no goal is nearer.
 pub record Closest (n : ℕ) (goal : ℕ → Type 0) (dist : ℕ → ℕ) (u : ℕ) : Type 0 where
   pub within : u < n
-  pub marked : goal u
+  pub is-goal : goal u
   pub near : dist u < stateBound
   pub least : (v : ℕ) → v < n → goal v → dist u ≤ dist v
 

@@ -8,7 +8,7 @@ use lib.ListN.{length, getD, take, drop}
 use Rattle.model.specs.Machines.{Meaning, states, labelOf}
 use Rattle.until.specs.declared.formula.Line.{Line}
 use Rattle.until.specs.declared.formula.Line.the-variants.{True, At, And, Until}
-use Rattle.until.specs.Searches.{Marked, Over}
+use Rattle.until.specs.Searches.{Marked, WalkOver}
 use Rattle.until.specs.Formulas.{Formula, truth, meets, Holds}
 use Rattle.until.specs.Lines.{Says}
 
@@ -22,7 +22,7 @@ module _ {L : Type 0} (atMost : L → L → Bool) (m : Meaning L) where
   HoldsBy rows True s = Unit {0}
   HoldsBy rows (At a) s = T (meets atMost a (labelOf m s))
   HoldsBy rows (And i j) s = Marked (rowOf (states m) rows i) s × Marked (rowOf (states m) rows j) s
-  HoldsBy rows (Until i j) s = Over m (rowOf (states m) rows i) (Marked (rowOf (states m) rows j)) s
+  HoldsBy rows (Until i j) s = WalkOver m (rowOf (states m) rows i) (Marked (rowOf (states m) rows j)) s
 
   -- Row k of the bytes says where the line holds by the rows before it, and nothing else has changed.
   pub record Filled (line : Line L) (k : ℕ) (before bytes : List ℕ) : Type 0 where

@@ -18,7 +18,7 @@ abbrev pub meets : {L : Type 0} → (L → L → Bool) → L → Option L → Bo
 meets atMost a None = false
 meets atMost a (Some b) = atMost a b
 
--- The formula holds at the state t.
+-- The formula holds at t. It is asked of states only.
 abbrev pub Holds : {L : Type 0} → (L → L → Bool) → Meaning L → Formula L → ℕ → Type 0
 Holds atMost m truth t = Unit {0}
 Holds atMost m (at a) t = T (meets atMost a (labelOf m t))

@@ -21,7 +21,8 @@ abbrev pub Says : ℕ → Type 0 → Type 0
 Says byte P = ((byte ≡ 1) × P) ⊎ ((byte ≡ 0) × (P → ⊥))
 
 module _ {L : Type 0} where
-  -- The formula of a line, where those of the lines before it are known.
+  -- The formula of a line, where those of the lines before it are known. A number that is no earlier line stands for
+  -- (true), and evaluating is refused.
   abbrev pub formulaOf : List (Formula L) → Line L → Formula L
   formulaOf fs True = truth
   formulaOf fs (At a) = at a
@@ -29,12 +30,12 @@ module _ {L : Type 0} where
   formulaOf fs (Until i j) = until (getD fs i truth) (getD fs j truth)
 
   -- The formulas of the lines in turn, after those of the lines before them.
-  abbrev pub after : List (Formula L) → List (Line L) → List (Formula L)
-  after fs [] = fs
-  after fs (l ∷ ls) = after (fs ++ formulaOf fs l ∷ []) ls
+  abbrev pub formulasFrom : List (Formula L) → List (Line L) → List (Formula L)
+  formulasFrom fs [] = fs
+  formulasFrom fs (l ∷ ls) = formulasFrom (fs ++ formulaOf fs l ∷ []) ls
 
   abbrev pub formulas : List (Line L) → List (Formula L)
-  formulas ls = after [] ls
+  formulas ls = formulasFrom [] ls
 
   -- The formula that line k denotes.
   abbrev pub denoted : List (Line L) → ℕ → Formula L
@@ -47,7 +48,7 @@ module _ {L : Type 0} where
   namesEarlier k (And i j) = ltb i k && ltb j k
   namesEarlier k (Until i j) = ltb i k && ltb j k
 
-  -- So do all lines, of which the first is line k.
+  -- All lines name lines before them only, where the first is line k.
   abbrev pub allNameEarlier : ℕ → List (Line L) → Bool
   allNameEarlier k [] = true
   allNameEarlier k (l ∷ ls) = namesEarlier k l && allNameEarlier (suc k) ls
@@ -56,7 +57,7 @@ module _ {L : Type 0} where
   abbrev pub evaluateRefusal : ℕ → List (Line L) → ℕ → Option ℕ
   evaluateRefusal n ls room = cond (ltb room (length ls * n)) (Some 6) (cond (allNameEarlier 0 ls) None (Some 12))
 
-  -- Each line has its row, and the memory past the rows is as before.
+  -- The byte of each line and state says whether the line's formula holds there, and the memory past them is as before.
   pub record Evaluated (atMost : L → L → Bool) (m : Meaning L) (ls : List (Line L)) (before bytes : List ℕ) : Type 0 where
     pub said : (k s : ℕ) → k < length ls → s < states m → Says (getD bytes (k * states m + s) 0) (Holds atMost m (denoted ls k) s)
     pub rest : drop (length ls * states m) bytes ≡ drop (length ls * states m) before

@@ -15,29 +15,29 @@ use Rattle.model.specs.Refusals.{Checked}
 use Rattle.until.specs.Walks.{Walk, visited, Shortest}
 
 -- The byte of u is not zero. A number past the row is not marked.
-abbrev pub marked : List ℕ → ℕ → Bool
-marked row u = not (eqb (getD row u 0) 0)
+abbrev pub isMarked : List ℕ → ℕ → Bool
+isMarked row u = not (eqb (getD row u 0) 0)
 
 abbrev pub Marked : List ℕ → ℕ → Type 0
-Marked row u = T (marked row u)
+Marked row u = T (isMarked row u)
 
 module _ {L : Type 0} (m : Meaning L) (row : List ℕ) where
   -- A walk from s over marked states to one where Q holds.
-  abbrev pub Over : (ℕ → Type 0) → ℕ → Type 0
-  Over Q s = Walk (Step m) (Marked row) Q s
+  abbrev pub WalkOver : (ℕ → Type 0) → ℕ → Type 0
+  WalkOver Q s = Walk (Step m) (Marked row) Q s
 
-  -- The same, from a number that is a state.
-  abbrev pub OverFrom : (ℕ → Type 0) → ℕ → Type 0
-  OverFrom Q s = (s < states m) × Over Q s
+  -- The same from a state: a number that is none has no walk, not even one of no steps.
+  abbrev pub WalkFromState : (ℕ → Type 0) → ℕ → Type 0
+  WalkFromState Q s = (s < states m) × WalkOver Q s
 
   -- The list says of every u whether such a walk from s ends there.
   abbrev pub Reached : ℕ → List Bool → Type 0
-  Reached s reached = (u : ℕ) → Decides (getD reached u false) (OverFrom (λ v. v ≡ u) s)
+  Reached s reached = (u : ℕ) → Decides (getD reached u false) (WalkFromState (λ v. v ≡ u) s)
 
   -- The memory begins with the k states of a shortest walk to a marked goal, and is as before past them.
   pub record Written (goal : List ℕ) (s : ℕ) (before after : List ℕ) (k : ℕ) : Type 0 where
     pub from-state : s < states m
-    pub walk : Over (Marked goal) s
+    pub walk : WalkOver (Marked goal) s
     pub shortest : Shortest walk
     pub counted : k ≡ length (visited walk)
     pub memory : after ≡ visited walk ++ drop k before
@@ -45,12 +45,12 @@ module _ {L : Type 0} (m : Meaning L) (row : List ℕ) where
   -- Such a walk is written, or there is none and the memory is as before.
   abbrev pub WrittenIfAny : List ℕ → ℕ → List ℕ → List ℕ → Option ℕ → Type 0
   WrittenIfAny goal s before after (Some k) = Written goal s before after k
-  WrittenIfAny goal s before after None = (OverFrom (Marked goal) s → ⊥) × (after ≡ before)
+  WrittenIfAny goal s before after None = (WalkFromState (Marked goal) s → ⊥) × (after ≡ before)
 
   -- Why the search for a walk in so much memory is refused, if it is: it needs a place for each state.
   abbrev pub walkRefusal : ℕ → Option ℕ
   walkRefusal room = cond (ltb room (states m)) (Some 6) None
 
   -- What the search for a shortest walk answers, and what its memory then holds.
-  abbrev pub WalkFound : List ℕ → ℕ → List ℕ → Result (Option ℕ) Refusal → List ℕ → Type 0
-  WalkFound goal s before r after = Checked (walkRefusal (length before)) (after ≡ before) (WrittenIfAny goal s before after) r
+  abbrev pub SearchAnswers : List ℕ → ℕ → List ℕ → Result (Option ℕ) Refusal → List ℕ → Type 0
+  SearchAnswers goal s before r after = Checked (walkRefusal (length before)) (after ≡ before) (WrittenIfAny goal s before after) r

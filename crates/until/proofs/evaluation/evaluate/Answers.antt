@@ -1,27 +1,22 @@
-use mathlib.Core.Path.{_≡_, refl, sym, ap, subst, _∙_}
+use mathlib.Core.Path.{refl, sym, ap, _∙_}
 use mathlib.Core.Logic.{⊎-elim}
-use mathlib.Core.Bool.{cond}
 use native.Mathlib.Omega.{arith}
 use borrow.Author.Needs.{needs}
-use Prim.Native.Nat.{ℕ, _*_, _^_, _<_, _≤_}
-use lib.Dec.{T}
-use lib.ListN.{length, getD}
-use Rattle.std.specs.declared.option.Option.the-variants.{None, Some}
+use Prim.Native.Nat.{_*_, _^_, _<_, _≤_}
+use lib.ListN.{length}
 use Rattle.std.proofs.shelf.Tests.{cases-lt, cond-true}
 use Rattle.model.specs.Machines.{states}
 use Rattle.model.proofs.Checks.{when-answered, when-refused, room-short, room-enough}
-use Rattle.model.proofs.Tests.{true-holds}
-use Rattle.until.specs.Lines.{namesEarlier, allNameEarlier}
-use Rattle.until.proofs.Lines.{row-room, each-names}
+use Rattle.until.proofs.Lines.{row-room, line-names}
 use Rattle.until.proofs.Evaluating.{evaluating-more, evaluating-all}
 use Rattle.until.proofs.evaluation.evaluate.Needs as need
 
--- what does not fit a number is longer than any memory
+-- rows that are too many to count are more than any memory holds
 pub returns-in-rest : need.returns-in-rest
 returns-in-rest g c =
     let lines = c .args .lines .now in
     let rows = c .args .rows .now in
-    let n = states (g .M·Machine .meaning (c .args .m .now)) in
+    let n = states (g .M·Machine .meaning (c .args .machine .now)) in
     let size = ap (λ v. length lines * v) (c .count-n .ensures) in
     let fits : length rows < 2 ^ 64 = search needs in
     let short : length rows < length lines * n =
@@ -32,31 +27,25 @@ pub fill-row-requires : need.fill-row-requires
 fill-row-requires g c κs =
     let lines = c .args .lines .now in
     let k = c .loop-k .k in
-    let line = c .index-lines-k .result in
-    let n = states (g .M·Machine .meaning (c .args .m .now)) in
     let size = ap (λ v. length lines * v) (c .count-n .ensures) in
-    let all : T (allNameEarlier 0 lines) = true-holds _ (sym (c .if-not-all-name-earlier .ensures tt)) in
-    let names = each-names 0 lines all k line (c .loop-k-test .taken) in
+    let rows = row-room k (length lines) (states (g .M·Machine .meaning (c .args .machine .now))) (c .loop-k-test .taken) in
     record {
-      earlier = subst (λ l. T (namesEarlier k l)) (sym (c .index-lines-k .is)) (subst (λ j. T (namesEarlier j (getD lines k line))) (omega arith) names);
-      room = omega (arith, row-room k (length lines) n (c .loop-k-test .taken), size, c .in-Some .ensures tt, c .if-rows-size .left, c .loop-k .kept .rows);
+      earlier = line-names lines k (c .index-lines-k .result) (c .if-not-all-name-earlier .ensures tt) (c .loop-k-test .taken) (c .index-lines-k .is);
+      room = omega (arith, rows, size, c .in-Some .ensures tt, c .if-rows-size .left, c .loop-k .kept .rows);
     }
 
 pub loop-k-again : need.loop-k-again
 loop-k-again g c =
     let lines = c .args .lines .now in
-    let k = c .loop-k .k in
     let line = c .index-lines-k .result in
-    let all : T (allNameEarlier 0 lines) = true-holds _ (sym (c .if-not-all-name-earlier .ensures tt)) in
-    let names = each-names 0 lines all k line (c .loop-k-test .taken) in
-    let earlier : T (namesEarlier k line) = subst (λ l. T (namesEarlier k l)) (sym (c .index-lines-k .is)) (subst (λ j. T (namesEarlier j (getD lines k line))) (omega arith) names) in
+    let earlier = line-names lines (c .loop-k .k) line (c .if-not-all-name-earlier .ensures tt) (c .loop-k-test .taken) (c .index-lines-k .is) in
     evaluating-more _ _ _ _ (c .loop-k .inv) (c .loop-k-test .taken) (c .index-lines-k .is) earlier (c .fill-row .ensures) (c .fill-row .kept .rows)
 
 pub returns : need.returns
 returns g c =
     let lines = c .args .lines .now in
     let rows = c .args .rows .now in
-    let n = states (g .M·Machine .meaning (c .args .m .now)) in
+    let n = states (g .M·Machine .meaning (c .args .machine .now)) in
     let size = ap (λ v. length lines * v) (c .count-n .ensures) in
     let enough : length lines * n ≤ length rows = omega (arith, size, c .in-Some .ensures tt, c .if-rows-size .left) in
     when-answered

@@ -1,7 +1,7 @@
-use mathlib.Core.Path.{_≡_, sym, ap, subst, _∙_}
+use mathlib.Core.Path.{_≡_, ap, subst, _∙_}
 use native.Mathlib.Omega.{arith}
-use Prim.Native.Nat.{ℕ, _-_, _*_, _+_, _<_, _≤_}
-use lib.ListN.{length, take}
+use Prim.Native.Nat.{_-_, _*_, _+_, _<_}
+use lib.ListN.{take}
 use Rattle.std.specs.Orderings.{Decides}
 use Rattle.std.proofs.shelf.Lists.{length-take-le}
 use Rattle.model.specs.Machines.{states}
@@ -33,8 +33,8 @@ index-rows-k g c =
 
 pub loop-s-again : need.loop-s-again
 loop-s-again g c =
-    let m = g .M·Machine .meaning (c .args .m .now) in
-    let atMost = g .O·Order .relation (c .args .o .now) in
+    let m = g .M·Machine .meaning (c .args .machine .now) in
+    let atMost = g .O·Order .relation (c .args .order .now) in
     let k = c .args .k in
     let s = c .loop-s .s in
     let line = c .args .line .now in

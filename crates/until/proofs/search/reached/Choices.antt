@@ -8,6 +8,6 @@ use Rattle.until.proofs.search.reached.Given as given
 
 abbrev pub Inv-loop-u : given.InvT-loop-u
 Inv-loop-u g l =
-    (length (l .reached) ≡ stateBound)
-    × ((v : ℕ) → v < l .u → getD (l .reached) v false ≡ ltb (getD (l .found .dist) v 0) stateBound)
-    × ((v : ℕ) → l .u ≤ v → getD (l .reached) v false ≡ false)
+    (length (l .ends) ≡ stateBound)
+    × ((v : ℕ) → v < l .u → getD (l .ends) v false ≡ ltb (getD (l .found .dist) v 0) stateBound)
+    × ((v : ℕ) → l .u ≤ v → getD (l .ends) v false ≡ false)

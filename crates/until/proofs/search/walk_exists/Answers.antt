@@ -1,4 +1,4 @@
-use mathlib.Core.Path.{sym, refl, subst}
+use mathlib.Core.Path.{sym, refl}
 use native.Mathlib.Omega.{arith}
 use Rattle.std.proofs.shelf.Tests.{false≢true}
 use Rattle.model.specs.Machines.{states}
@@ -8,7 +8,7 @@ use Rattle.until.proofs.search.walk_exists.Needs as need
 
 pub returns-then-marked : need.returns-then-marked
 returns-then-marked g c =
-    let there = c .reached-reached .ensures (c .loop-u .u) .0 (c .if-reached-u .taken) in
+    let there = c .reached-ends .ensures (c .loop-u .u) .0 (c .if-ends-u .taken) in
     (λ _. (there .0, walk-there (true-holds _ (sym (c .if-marked .ensures tt))) (there .1)), λ _. refl)
 
 pub returns : need.returns
@@ -16,6 +16,6 @@ returns g c = (
   λ e. absurd (false≢true e),
   λ w.
       let e = walk-end (w .1) in
-      let low = walk-within {n = states (g .M·Machine .meaning (c .args .m .now))} (λ a b st. st .to-state) (w .0) (e .2) in
-      absurd (c .loop-u .inv (e .0) (omega (arith, low, c .loop-u-test .left, c .count-u-end .ensures)) (c .reached-reached .ensures (e .0) .1 (w .0, e .2)) (e .1)),
+      let low = walk-within {n = states (g .M·Machine .meaning (c .args .machine .now))} (λ a b st. st .to-state) (w .0) (e .2) in
+      absurd (c .loop-u .inv (e .0) (omega (arith, low, c .loop-u-test .left, c .count-u-end .ensures)) (c .reached-ends .ensures (e .0) .1 (w .0, e .2)) (e .1)),
 )

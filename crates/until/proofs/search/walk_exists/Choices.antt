@@ -6,4 +6,4 @@ use Rattle.until.specs.Searches.{Marked}
 use Rattle.until.proofs.search.walk_exists.Given as given
 
 abbrev pub Inv-loop-u : given.InvT-loop-u
-Inv-loop-u g l = (v : ℕ) → v < l .u → getD (l .reached) v false ≡ true → Marked (l .goal) v → ⊥
+Inv-loop-u g l = (v : ℕ) → v < l .u → getD (l .ends) v false ≡ true → Marked (l .goal) v → ⊥

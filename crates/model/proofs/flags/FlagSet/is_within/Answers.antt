@@ -1,4 +1,3 @@
-use mathlib.Core.Path.{_≡_, sym}
 use Rattle.std.proofs.shelf.Ways.{decides-at}
 use borrow.Author.Needs.{needs}
 use Rattle.model.proofs.Masks.{masked, flags-mean}

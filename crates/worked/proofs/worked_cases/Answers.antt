@@ -1,20 +1,20 @@
 use Prim.Native.Nat.{ℕ, zero, suc}
 use native.Mathlib.Omega.{arith}
 use Rattle.model.specs.Machines.{Step}
-use Rattle.model.specs.Orders.{flags}
-use Rattle.until.specs.Walks.{Walk, stop, go}
-use Rattle.until.specs.Formulas.{at, Holds}
-use Rattle.worked.specs.Table.{pair, one-until-two}
-use Rattle.worked.proofs.worked_table.Needs as need
+use Rattle.model.specs.Orders.{flagsAtMost}
+use Rattle.until.specs.Walks.{stop, go}
+use Rattle.until.specs.Formulas.{Holds}
+use Rattle.worked.specs.Cases.{twoBesideOne, one-until-two}
+use Rattle.worked.proofs.worked_cases.Needs as need
 
 -- the label 1 alone has no step
-no-step : (u : ℕ) → Step pair 2 u → ⊥
+no-step : (u : ℕ) → Step twoBesideOne 2 u → ⊥
 no-step zero e = e .there
 no-step (suc zero) e = e .there
 no-step (suc (suc zero)) e = e .there
 no-step (suc (suc (suc u))) e = omega (arith, e .to-state)
 
-stuck : Holds flags pair one-until-two 2 → ⊥
+stuck : Holds flagsAtMost twoBesideOne one-until-two 2 → ⊥
 stuck (stop q) = q
 stuck (go {u = u} p e w) = no-step u e
 
