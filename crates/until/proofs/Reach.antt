@@ -1,4 +1,4 @@
--- What is reached, from the steps that the search counted. Assumes nothing.
+-- What is reached, from the steps that the search counted, and the test for it. Assumes nothing.
 use mathlib.Core.Path.{_≡_, refl, sym, _∙_}
 use mathlib.Core.Logic.{⊎-elim}
 use mathlib.Core.List.{List}
@@ -8,10 +8,13 @@ use native.Mathlib.Omega.{arith}
 use lib.Dec.{ltb}
 use lib.ListN.{getD, replicate}
 use Rattle.std.proofs.shelf.Tests.{cases-lt, ltb-true, lt-ltb, false≢true}
-use Rattle.model.specs.Machines.{Meaning, Step, states, stateBound}
-use Rattle.until.specs.Searches.{Marked, Reached}
+use Rattle.std.specs.Orderings.{Decides}
+use Rattle.std.proofs.shelf.Ways.{same-from-decides, decides-and, decides-ltb}
+use Rattle.model.specs.Machines.{Meaning, Bounded, Step, states, stateBound}
+use Rattle.until.specs.Searches.{isMarked, Marked, WalkFromState, walkExists, Reached}
 use Rattle.until.specs.Explored.{Found}
 use Rattle.until.proofs.Walks.{walk-within}
+use Rattle.until.proofs.Decided.{walks-decides}
 
 pub none-marked : (n u : ℕ) → getD (replicate n false) u false ≡ false
 none-marked zero u = refl
@@ -31,3 +34,8 @@ module _ {L : Type 0} (m : Meaning L) (row : List ℕ) (s : ℕ) (reached : List
 
   pub nothing-reached : states m ≤ s → ((v : ℕ) → getD reached v false ≡ false) → Reached m row s reached
   nothing-reached no-state none u = (λ e. absurd (false≢true (sym (none u) ∙ e)), λ r. absurd (omega (arith, r .0)))
+
+-- an answer that tells whether there is a walk is the test for one
+pub exists-test : {L : Type 0} {m : Meaning L} → Bounded m → (row goal : List ℕ) (s : ℕ) (r : Bool) → Decides r (WalkFromState m row (Marked goal) s) → r ≡ walkExists m row goal s
+exists-test {m = m} b row goal s r means =
+    same-from-decides r _ means (decides-and (ltb s (states m)) _ (decides-ltb s (states m)) (walks-decides m (isMarked row) (isMarked goal) b s))

@@ -1,4 +1,5 @@
 pub mod Walks
+pub mod Decided
 pub mod Searches
 pub mod Explored
 pub mod Formulas

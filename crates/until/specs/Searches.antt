@@ -1,7 +1,7 @@
 -- What a search over a row of bytes answers. Assumes nothing.
 use mathlib.Core.Path.{_≡_}
 use mathlib.Core.List.{List, _++_}
-use mathlib.Core.Bool.{Bool, false, cond, not}
+use mathlib.Core.Bool.{Bool, false, cond, not, _&&_}
 use Prim.Native.Nat.{ℕ, _<_}
 use lib.Dec.{T, eqb, ltb}
 use lib.ListN.{length, getD, drop}
@@ -13,6 +13,7 @@ use Rattle.model.specs.declared.refusal.Refusal.{Refusal}
 use Rattle.model.specs.Machines.{Meaning, states, Step}
 use Rattle.model.specs.Refusals.{Checked}
 use Rattle.until.specs.Walks.{Walk, visited, Shortest}
+use Rattle.until.specs.Decided.{walks}
 
 -- The byte of u is not zero. A number past the row is not marked.
 abbrev pub isMarked : List ℕ → ℕ → Bool
@@ -29,6 +30,10 @@ module _ {L : Type 0} (m : Meaning L) (row : List ℕ) where
   -- The same from a state: a number that is none has no walk, not even one of no steps.
   abbrev pub WalkFromState : (ℕ → Type 0) → ℕ → Type 0
   WalkFromState Q s = (s < states m) × WalkOver Q s
+
+  -- The same as a test that computes, for a goal that is marked.
+  abbrev pub walkExists : List ℕ → ℕ → Bool
+  walkExists goal s = ltb s (states m) && walks m (isMarked row) (isMarked goal) s
 
   -- The list says of every u whether such a walk from s ends there.
   abbrev pub Reached : ℕ → List Bool → Type 0

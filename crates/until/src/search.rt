@@ -8,7 +8,7 @@ ghost use lib.ListN.{getD};
 ghost use mathlib.Core.Path.{_≡_};
 ghost use Rattle.std.specs.Orderings.{Decides};
 ghost use Rattle.model.specs.Machines.{states, stateBound};
-ghost use Rattle.until.specs.Searches.{isMarked, Marked, WalkFromState, Reached, SearchAnswers};
+ghost use Rattle.until.specs.Searches.{isMarked, Marked, WalkFromState, walkExists, Reached, SearchAnswers};
 ghost use Rattle.until.specs.Explored.{Explores, Chosen};
 
 /// The distance of a state that is not reached: no walk to a state needs so many steps.
@@ -77,7 +77,8 @@ pub fn reached<M: Machine>(machine: &M, row: &[u8], start: usize) -> [bool; STAT
 
 /// Whether some walk from `start` ends at a state marked in `goal`, with all states before it marked in `row`.
 pub fn walk_exists<M: Machine>(machine: &M, row: &[u8], goal: &[u8], start: usize) -> bool
-    ensures { λ r. ⌜ Decides r (WalkFromState (M·Machine .meaning (now (machine .entry))) (now (row .entry)) (Marked (now (goal .entry))) start) ⌝ }
+    ensures means { λ r. ⌜ Decides r (WalkFromState (M·Machine .meaning (now (machine .entry))) (now (row .entry)) (Marked (now (goal .entry))) start) ⌝ }
+    ensures test { λ r. ⌜ r ≡ walkExists (M·Machine .meaning (now (machine .entry))) (now (row .entry)) (now (goal .entry)) start ⌝ }
 {
     let ends = reached(machine, row, start);
     for u in 0..machine.count() {

@@ -1,0 +1,4 @@
+pub mod Simulations
+pub mod Strikes
+pub mod Told
+pub mod Statements
