@@ -8,9 +8,10 @@ use Rattle.strikes.proofs.Stability.{stable-simulation}
 
 module _ {L : Type 0} {atMost : L → L → Bool} (laws : Preorder atMost) where
   pub standing-is-entailment : Standing-is-entailment atMost
-  standing-is-entailment m bounded ks law stable s t hs ht =
-      (λ r F h. holds-along laws m (stable-simulation atMost m bounded ks stable) F s t hs ht r h,
-       λ all. known-stands atMost m ks law s t ht (all (known atMost m ks s) (known-holds atMost m laws ks law s)))
+  standing-is-entailment m bounded ks law stable s t hs ht = (
+    λ r F h. holds-along laws m (stable-simulation atMost m bounded ks stable) F s t hs ht r h,
+    λ all. known-stands atMost m ks law s t ht (all (known atMost m ks s) (known-holds atMost m laws ks law s)),
+  )
 
   pub alike-is-same : Alike-is-same atMost
   alike-is-same m bounded ks law stable s t hs ht =

@@ -15,8 +15,7 @@ pub fn standing_is_entailment<O: Order>(order: &O)
 /// What stands both ways, once nothing more can be struck, has the same until formulas.
 pub fn alike_is_same<O: Order>(order: &O)
     ensures { λ _. ⌜ Alike-is-same (O·Order .relation (now (order .entry))) ⌝ }
-{
-}
+{}
 
 /// What stands, once nothing more can be struck, is the largest simulation.
 pub fn standing_is_largest<O: Order>(order: &O)

@@ -98,9 +98,9 @@ module _ {L : Type 0} (m : Meaning L) (ok goal : ℕ → Bool) where
       ⊎-elim
       (λ still. inl (still-next k still))
       (λ le. ⊎-elim
-        (λ e. inl (still-next k (tally-same (within k) (within (suc k)) (within-more k) (states m) e)))
-        (λ ne. inr (omega (arith, tally-more (within k) (within (suc k)) (within-more k) (states m))))
-        (cases-eq (tally (within k) (states m)) (tally (within (suc k)) (states m))))
+      (λ e. inl (still-next k (tally-same (within k) (within (suc k)) (within-more k) (states m) e)))
+      (λ ne. inr (omega (arith, tally-more (within k) (within (suc k)) (within-more k) (states m))))
+      (cases-eq (tally (within k) (states m)) (tally (within (suc k)) (states m))))
       (grows k)
 
   still-all : Still (states m)
@@ -116,10 +116,10 @@ module _ {L : Type 0} (m : Meaning L) (ok goal : ℕ → Bool) where
       ⊎-elim
       (λ g. stop (true-holds (goal t) g))
       (λ g.
-        let p = and-parts (ok t) (someBelow (λ u. m .step t u && within k u) (states m)) g in
-        let w = some-decides (λ u. m .step t u && within k u) (states m) .0 (p .1) in
-        let q = and-parts (m .step t (w .0)) (within k (w .0)) (w .2) in
-        go (true-holds (ok t) (p .0)) (b .inside t (w .0) (true-holds (m .step t (w .0)) (q .0))) (within-sound b k (w .0) (q .1)))
+      let p = and-parts (ok t) (someBelow (λ u. m .step t u && within k u) (states m)) g in
+      let w = some-decides (λ u. m .step t u && within k u) (states m) .0 (p .1) in
+      let q = and-parts (m .step t (w .0)) (within k (w .0)) (w .2) in
+      go (true-holds (ok t) (p .0)) (b .inside t (w .0) (true-holds (m .step t (w .0)) (q .0))) (within-sound b k (w .0) (q .1)))
       (or-cases (goal t) (onward (within k) t) h)
 
   walks-complete : {t : ℕ} → Walk (Step m) (λ u. T (ok u)) (λ u. T (goal u)) t → walks m ok goal t ≡ true
@@ -127,7 +127,7 @@ module _ {L : Type 0} (m : Meaning L) (ok goal : ℕ → Bool) where
   walks-complete {t} (go {u = u} p e w) =
       let there : (m .step t u && within (states m) u) ≡ true = and-from (m .step t u) (within (states m) u) (holds-true (m .step t u) (e .there)) (walks-complete w) in
       still-all t (e .from-state) (or-right (goal t) (onward (within (states m)) t)
-        (and-from (ok t) _ (holds-true (ok t) p) (some-decides (λ v. m .step t v && within (states m) v) (states m) .1 (u, e .to-state, there))))
+      (and-from (ok t) _ (holds-true (ok t) p) (some-decides (λ v. m .step t v && within (states m) v) (states m) .1 (u, e .to-state, there))))
 
   pub walks-decides : Bounded m → (t : ℕ) → Decides (walks m ok goal t) (Walk (Step m) (λ u. T (ok u)) (λ u. T (goal u)) t)
   walks-decides b t = (within-sound b (states m) t, walks-complete)

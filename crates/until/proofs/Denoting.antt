@@ -14,7 +14,8 @@ use Rattle.until.specs.declared.formula.Line.the-variants.{True, At, And, Unti
 use Rattle.until.specs.Searches.{Marked}
 use Rattle.until.specs.Formulas.{Formula, truth, Holds}
 use Rattle.until.specs.Lines.{Says, formulaOf, formulasFrom, formulas, namesEarlier}
-use Rattle.until.specs.Filled.{rowOf, HoldsBy, Rows}
+use Rattle.until.specs.Rows.{rowOf}
+use Rattle.until.specs.Filled.{HoldsBy, Rows}
 use Rattle.until.proofs.Walks.{walk-map}
 use Rattle.until.proofs.Lines.{two-earlier}
 

@@ -21,12 +21,6 @@ row-room i k n h = omega (arith, suc-mul i n, mul-le-mul-right {m = suc i} {n = 
 pub two-earlier : (i j k : ℕ) → T (ltb i k && ltb j k) → (i < k) × (j < k)
 two-earlier i j k h = (ltb→lt i k (first-holds (ltb i k) (ltb j k) h), ltb→lt j k (second-holds (ltb i k) (ltb j k) h))
 
--- the rows of two earlier lines end within the rows of the k lines before
-pub names-room : (i j k n states len : ℕ) → T (ltb i k && ltb j k) → n ≡ states → len ≡ k * states → (i * n + n ≤ len) × (j * n + n ≤ len)
-names-room i j k n states len h e f =
-    let two = two-earlier i j k h in
-    subst (λ v. (i * v + v ≤ len) × (j * v + v ≤ len)) (sym e) (omega (arith, f, row-room i k states (two .0)), omega (arith, f, row-room j k states (two .1)))
-
 module _ {L : Type 0} where
   -- the lines from line k on, by line k and the rest
   pub rest-names : (ls : List (Line L)) (k : ℕ) (d : Line L) → k < length ls → allNameEarlier k (drop k ls) ≡ (namesEarlier k (getD ls k d) && allNameEarlier (k + 1) (drop (k + 1) ls))

@@ -8,13 +8,10 @@ use lib.ListN.{length, getD, take, drop}
 use Rattle.model.specs.Machines.{Meaning, states, labelOf}
 use Rattle.until.specs.declared.formula.Line.{Line}
 use Rattle.until.specs.declared.formula.Line.the-variants.{True, At, And, Until}
+use Rattle.until.specs.Rows.{rowOf}
 use Rattle.until.specs.Searches.{Marked, WalkOver}
 use Rattle.until.specs.Formulas.{Formula, truth, meets, Holds}
 use Rattle.until.specs.Lines.{Says}
-
--- Row k of rows of n bytes.
-abbrev pub rowOf : ℕ → List ℕ → ℕ → List ℕ
-rowOf n bytes k = take n (drop (k * n) bytes)
 
 module _ {L : Type 0} (atMost : L → L → Bool) (m : Meaning L) where
   -- The line holds at s, where the rows say at which states the lines before it hold.

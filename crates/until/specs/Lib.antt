@@ -1,4 +1,5 @@
 pub mod Walks
+pub mod Rows
 pub mod Decided
 pub mod Searches
 pub mod Explored

@@ -1,40 +1,29 @@
 //! Evaluation of formulas, line by line.
 use crate::formula::Line;
 use crate::formula::all_name_earlier;
+use crate::rows::row;
 use crate::search::marked;
 use crate::search::walk_exists;
 use model::Machine;
 use model::Order;
 use model::Refusal;
 ghost use Prim.Native.Nat.{_+_, _*_, _<_, _≤_};
-ghost use lib.Dec.{T};
 ghost use lib.ListN.{length};
 ghost use mathlib.Core.Path.{_≡_};
 ghost use Rattle.std.specs.Orderings.{Decides};
 ghost use Rattle.model.specs.Machines.{states};
-ghost use Rattle.until.specs.Lines.{namesEarlier, Evaluates};
-ghost use Rattle.until.specs.Filled.{rowOf, HoldsBy, Filled};
+ghost use Rattle.until.specs.Lines.{Evaluates};
+ghost use Rattle.until.specs.Filled.{HoldsBy, Filled};
 
-/// Row `k` of rows of `n` bytes.
-fn row(rows: &[u8], n: usize, k: usize) -> &[u8]
-    requires { ⌜ k * n + n ≤ length (now rows) ⌝ }
-    ensures { λ r. ⌜ now r ≡ rowOf n (now (rows .entry)) k ⌝ }
-{
-    &rows[k * n..k * n + n]
-}
-
-/// Whether line `k` holds at state `s`, by the rows of the lines before it.
+/// Whether a line holds at state `s`, by the rows of the lines before it.
 fn holds_at<M: Machine, O: Order<Label = M::Label>>(
     machine: &M,
     order: &O,
     line: &Line<M::Label>,
-    k: usize,
     rows: &[u8],
     s: usize,
 ) -> bool
-    requires state { ⌜ s < states (M·Machine .meaning (now machine)) ⌝ }
-    requires earlier { ⌜ T (namesEarlier k (now line)) ⌝ }
-    requires room { ⌜ length (now rows) ≡ k * states (M·Machine .meaning (now machine)) ⌝ }
+    requires { ⌜ s < states (M·Machine .meaning (now machine)) ⌝ }
     ensures { λ r. ⌜ Decides r (HoldsBy (O·Order .relation (now (order .entry))) (M·Machine .meaning (now (machine .entry))) (now (rows .entry)) (now (line .entry)) s) ⌝ }
 {
     let n = machine.count();
@@ -57,13 +46,12 @@ fn fill_row<M: Machine, O: Order<Label = M::Label>>(
     k: usize,
     rows: &mut [u8],
 )
-    requires earlier { ⌜ T (namesEarlier k (now line)) ⌝ }
-    requires room { ⌜ k * states (M·Machine .meaning (now machine)) + states (M·Machine .meaning (now machine)) ≤ length (now rows) ⌝ }
+    requires { ⌜ k * states (M·Machine .meaning (now machine)) + states (M·Machine .meaning (now machine)) ≤ length (now rows) ⌝ }
     ensures { λ _. ⌜ Filled (O·Order .relation (now (order .entry))) (M·Machine .meaning (now (machine .entry))) (now (line .entry)) k (now (rows .entry)) (now (rows .exit)) ⌝ }
 {
     let n = machine.count();
     for s in 0..n {
-        let holds = holds_at(machine, order, line, k, &rows[0..k * n], s);
+        let holds = holds_at(machine, order, line, &rows[0..k * n], s);
         rows[k * n + s] = u8::from(holds);
     }
 }

@@ -29,10 +29,7 @@ fill-row-requires g c κs =
     let k = c .loop-k .k in
     let size = ap (λ v. length lines * v) (c .count-n .ensures) in
     let rows = row-room k (length lines) (states (g .M·Machine .meaning (c .args .machine .now))) (c .loop-k-test .taken) in
-    record {
-      earlier = line-names lines k (c .index-lines-k .result) (c .if-not-all-name-earlier .ensures tt) (c .loop-k-test .taken) (c .index-lines-k .is);
-      room = omega (arith, rows, size, c .in-Some .ensures tt, c .if-rows-size .left, c .loop-k .kept .rows);
-    }
+    omega (arith, rows, size, c .in-Some .ensures tt, c .if-rows-size .left, c .loop-k .kept .rows)
 
 pub loop-k-again : need.loop-k-again
 loop-k-again g c =

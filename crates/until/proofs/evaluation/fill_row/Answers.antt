@@ -15,21 +15,15 @@ loop-s-holds g c = filling-none _ _ _ _ _
 pub part-holds-at-end : need.part-holds-at-end
 part-holds-at-end g c =
     let size = ap (λ v. c .args .k * v) (c .count-n .ensures) in
-    omega (arith, size, c .pre .room, c .loop-s .inv .long)
+    omega (arith, size, c .pre, c .loop-s .inv .long)
 
 pub holds-at-holds-requires : need.holds-at-holds-requires
-holds-at-holds-requires g c κs =
-    let size = ap (λ v. c .args .k * v) (c .count-n .ensures) in
-    record {
-      state = omega (arith, c .count-n .ensures, c .loop-s-test .taken);
-      earlier = c .pre .earlier;
-      room = length-take-le _ (c .loop-s .rows) (omega (arith, size, c .pre .room, c .loop-s .inv .long)) ∙ omega (arith, size);
-    }
+holds-at-holds-requires g c κs = omega (arith, c .count-n .ensures, c .loop-s-test .taken)
 
 pub index-rows-k : need.index-rows-k
 index-rows-k g c =
     let size = ap (λ v. c .args .k * v) (c .count-n .ensures) in
-    omega (arith, size, c .count-n .ensures, c .pre .room, c .loop-s .inv .long, c .loop-s-test .taken)
+    omega (arith, size, c .count-n .ensures, c .pre, c .loop-s .inv .long, c .loop-s-test .taken)
 
 pub loop-s-again : need.loop-s-again
 loop-s-again g c =
@@ -44,7 +38,7 @@ loop-s-again g c =
     let seen : take (k * c .count-n .result - 0) (c .loop-s .rows) ≡ take (k * states m) before = ap (λ j. take j (c .loop-s .rows)) (omega (arith, size)) ∙ c .loop-s .inv .front in
     let decides : Decides (c .holds-at-holds .result) (HoldsBy atMost m (take (k * states m) before) line s) =
     subst (λ xs. Decides (c .holds-at-holds .result) (HoldsBy atMost m xs line s)) seen (c .holds-at-holds .ensures) in
-    filling-more atMost m line k before (c .loop-s .inv) low (k * c .count-n .result + s) (omega (arith, size)) (omega (arith, size, low, c .pre .room, c .loop-s .inv .long)) (c .from .result)
+    filling-more atMost m line k before (c .loop-s .inv) low (k * c .count-n .result + s) (omega (arith, size)) (omega (arith, size, low, c .pre, c .loop-s .inv .long)) (c .from .result)
     (says-test (c .holds-at-holds .result) (c .from .result) decides (c .from .ensures))
 
 pub keeps-rows : need.keeps-rows

@@ -1,0 +1,4 @@
+pub mod Least
+pub mod Judging
+pub mod Readiness
+pub mod Passing

@@ -1,0 +1,3 @@
+pub mod Lasting
+pub mod Memory
+pub mod Verdicts
