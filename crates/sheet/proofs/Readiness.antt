@@ -103,3 +103,10 @@ module _ {L : Type 0} (on : Setting L) where
 -- no more strikes than pairs
 pub made-few : (n : ℕ) (mem : Memory) → Ready n mem → mem .made ≤ n * n
 made-few n mem ready = omega (arith, ready .adds-up)
+
+-- a whole pass
+pub ready-pass : {L : Type 0} (on : Setting L) (now after : Memory) → Ready (size on) now → after ≡ passed on now (size on) → Ready (size on) after × (now .made ≤ after .made)
+ready-pass on now after ready e = (
+  subst (λ x. Ready (size on) x) (sym e) (ready-passed on now ready (size on) (omega arith)),
+  subst (λ x. now .made ≤ x .made) (sym e) (made-passed on now (size on)),
+)

@@ -11,7 +11,7 @@ ghost use lib.ListN.{length};
 ghost use mathlib.Core.Path.{_≡_};
 ghost use Rattle.model.specs.Machines.{states};
 ghost use Rattle.sheet.specs.Memory.{memory as held, Ready};
-ghost use Rattle.sheet.specs.Verdicts.{setting, verdictOf, strikesIn, tried, swept, passed};
+ghost use Rattle.sheet.specs.Verdicts.{setting, verdictOf, strikesIn, tried, swept, passed, settled};
 
 /// Tries the pair (s, t), and strikes it if it stands and has a ground.
 fn attempt<M: Machine, O: Order<Label = M::Label>, S: StrikeMemory>(
@@ -87,4 +87,28 @@ fn pass<M: Machine, O: Order<Label = M::Label>, S: StrikeMemory>(
         done = sweep_row(machine, order, pairs, strikes, done, s);
     }
     done
+}
+
+/// Passes until one strikes nothing; answers how many strikes there are then, and the passes taken.
+fn strike_all<M: Machine, O: Order<Label = M::Label>, S: StrikeMemory>(
+    machine: &M,
+    order: &O,
+    pairs: &mut [u8],
+    strikes: &mut S,
+    made: usize,
+) -> (usize, usize)
+    requires { ⌜ Ready (states (M·Machine .meaning (now machine))) (held (now pairs) (S·StrikeMemory .records (now strikes)) made) ⌝ }
+    ensures after { λ r. ⌜ (held (now (pairs .exit)) (S·StrikeMemory .records (now (strikes .exit))) (r .0), r .1) ≡ settled (setting (O·Order .relation (now (order .entry))) (M·Machine .meaning (now (machine .entry)))) (held (now (pairs .entry)) (S·StrikeMemory .records (now (strikes .entry))) made) ⌝ }
+    ensures same { λ r. ⌜ S·StrikeMemory .same (now (strikes .entry)) (now (strikes .exit)) ⌝ }
+{
+    let mut done = made;
+    let mut passes = 0;
+    loop {
+        let next = pass(machine, order, pairs, strikes, done);
+        passes += 1;
+        if next == done {
+            return (done, passes);
+        }
+        done = next;
+    }
 }
