@@ -5,3 +5,4 @@ pub mod Readiness
 pub mod Passing
 pub mod Agreement
 pub mod Growing
+pub mod Settling
