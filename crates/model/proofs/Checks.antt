@@ -1,6 +1,7 @@
 -- What a call answers, once it is known what its checks found. Assumes nothing.
-use mathlib.Core.Path.{_≡_, subst}
-use mathlib.Core.Bool.{cond}
+use mathlib.Core.Path.{_≡_, subst, _∙_}
+use mathlib.Core.List.{List, _∷_}
+use mathlib.Core.Bool.{Bool, true, false, cond}
 use Prim.Native.Nat.{ℕ, _<_, _≤_}
 use native.Mathlib.Omega.{arith}
 use lib.Dec.{ltb}
@@ -9,7 +10,7 @@ use Rattle.std.specs.declared.option.Option.the-variants.{None, Some}
 use Rattle.std.specs.declared.result.Result.{Result}
 use Rattle.std.proofs.shelf.Tests.{cond-true, cond-false, lt-ltb, le-ltb}
 use Rattle.model.specs.declared.refusal.Refusal.{Refusal}
-use Rattle.model.specs.Refusals.{Refused, Answered, Checked}
+use Rattle.model.specs.Refusals.{Refused, Answered, Checked, cause}
 
 module _ {A : Type 0} {cause : Option ℕ} {Unchanged : Type 0} {Good : A → Type 0} {r : Result A Refusal} where
   pub when-answered : cause ≡ None → Answered Good r → Checked cause Unchanged Good r
@@ -27,3 +28,10 @@ room-short room size k rest h = cond-true _ _ _ (lt-ltb _ _ h)
 
 pub room-enough : (room size k : ℕ) (rest : Option ℕ) → size ≤ room → cond (ltb room size) (Some k) rest ≡ rest
 room-enough room size k rest h = cond-false _ _ _ (le-ltb _ _ h)
+
+-- A list of tests, from the first on.
+pub finds : (b : Bool) (k : ℕ) (rest : List (Bool × ℕ)) → b ≡ true → cause ((b, k) ∷ rest) ≡ Some k
+finds b k rest e = cond-true b _ _ e
+
+pub passes : (b : Bool) (k : ℕ) (rest : List (Bool × ℕ)) (o : Option ℕ) → b ≡ false → cause rest ≡ o → cause ((b, k) ∷ rest) ≡ o
+passes b k rest o e f = cond-false b _ _ e ∙ f

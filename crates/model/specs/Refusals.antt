@@ -1,5 +1,7 @@
 -- Refusals: the number of each cause, and what a call that checks first answers. Assumes nothing.
 use mathlib.Core.Path.{_≡_}
+use mathlib.Core.List.{List, [], _∷_}
+use mathlib.Core.Bool.{Bool, cond}
 use Prim.Native.Nat.{ℕ}
 use Rattle.std.specs.declared.option.Option.{Option}
 use Rattle.std.specs.declared.option.Option.the-variants.{None, Some}
@@ -26,3 +28,8 @@ Answered Good (Err e) = ⊥
 pub record Checked {A : Type 0} (cause : Option ℕ) (Unchanged : Type 0) (Good : A → Type 0) (r : Result A Refusal) : Type 0 where
   pub refused : (k : ℕ) → cause ≡ Some k → Refused k r × Unchanged
   pub answered : cause ≡ None → Answered Good r
+
+-- The number of the first test that finds a cause, if any does.
+abbrev pub cause : List (Bool × ℕ) → Option ℕ
+cause [] = None
+cause (test ∷ tests) = cond (test .0) (Some (test .1)) (cause tests)

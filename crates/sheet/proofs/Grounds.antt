@@ -2,21 +2,19 @@
 use mathlib.Core.Path.{_≡_, refl, sym, ap, subst, _∙_}
 use mathlib.Core.List.{List}
 use mathlib.Core.Logic.{_⊎_, ⊎-elim}
-use mathlib.Core.Bool.{Bool, true, false, not, cond, _&&_}
-use Prim.Native.Nat.{ℕ, zero, suc, _<_, _≤_}
+use mathlib.Core.Bool.{Bool, true, false, cond}
+use Prim.Native.Nat.{ℕ, zero, suc, _<_}
 use native.Mathlib.Omega.{arith}
 use lib.Dec.{T, ltb}
-use Rattle.std.specs.declared.option.Option.{Option}
 use Rattle.std.specs.declared.option.Option.the-variants.{None, Some}
 use Rattle.std.proofs.shelf.Tests.{cases-bool, cases-lt, cond-true, cond-false, lt-ltb, le-ltb, and-parts, not-true, both-ways, and-from, not-from-false}
 use Rattle.std.proofs.shelf.Ways.{not-from-decides}
-use Rattle.model.specs.Machines.{Meaning, Bounded, Step, states, labelOf}
+use Rattle.model.specs.Machines.{Bounded, labelOf}
 use Rattle.model.proofs.Tests.{holds-true, true-holds, false-fails}
-use Rattle.until.specs.Decided.{walks}
 use Rattle.until.proofs.Decided.{walks-decides}
 use Rattle.strikes.specs.declared.strike.Ground.{Ground}
 use Rattle.strikes.specs.declared.strike.Ground.the-variants.{ByLabel, ByStep}
-use Rattle.strikes.specs.Simulations.{under, Answered}
+use Rattle.strikes.specs.Simulations.{under}
 use Rattle.strikes.specs.Strikes.{Grounded}
 use Rattle.sheet.specs.Memory.{stands}
 use Rattle.sheet.specs.Verdicts.{Setting, size, least, below, byStep, answered, unanswered, leastUnanswered, groundOf}

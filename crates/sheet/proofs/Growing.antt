@@ -2,7 +2,7 @@
 use mathlib.Core.Path.{_≡_, refl, sym, ap, subst, _∙_}
 use mathlib.Core.List.{List, [], _∷_, reverse}
 use mathlib.Core.Logic.{⊎-elim}
-use mathlib.Core.Bool.{Bool, true, false, not}
+use mathlib.Core.Bool.{Bool, true}
 use Prim.Native.Nat.{ℕ, zero, suc, _+_, _*_, _<_, _≤_}
 use native.Mathlib.Omega.{arith}
 use lib.Dec.{T}
@@ -15,13 +15,13 @@ use Rattle.model.specs.Machines.{Bounded}
 use Rattle.model.proofs.Tests.{true-holds}
 use Rattle.strikes.specs.declared.strike.Ground.{Ground}
 use Rattle.strikes.specs.declared.strike.Strike.{Strike}
-use Rattle.strikes.specs.Strikes.{Standing, Fair, Lawful, Stable}
-use Rattle.sheet.specs.Memory.{Memory, memory, stands, history, Ready}
+use Rattle.strikes.specs.Strikes.{Standing, Fair, Lawful}
+use Rattle.sheet.specs.Memory.{Memory, memory, stands, history}
 use Rattle.sheet.specs.Verdicts.{Setting, size, strike, judged, applied, groundOf, tried, swept, passed}
 use Rattle.sheet.specs.Genuine.{Agrees, Genuine, Grown}
-use Rattle.sheet.proofs.Grounds.{ground-there, no-ground}
+use Rattle.sheet.proofs.Grounds.{ground-there}
 use Rattle.sheet.proofs.Readiness.{strike-room, ready-judged, tried-stood, tried-struck}
-use Rattle.sheet.proofs.Agreement.{agrees-strike, bytes-to-strikes, strikes-to-bytes}
+use Rattle.sheet.proofs.Agreement.{agrees-strike, bytes-to-strikes}
 
 history-more : (mem : Memory) (k : Strike) (pairs : List ℕ) → mem .made < length (mem .records) → history (memory pairs (set (mem .records) (mem .made) k) (mem .made + 1)) ≡ k ∷ history mem
 history-more mem k pairs h = ap reverse (take-more-set (mem .records) (mem .made) k h) ∙ reverse-append (take (mem .made) (mem .records)) (k ∷ [])

@@ -1,18 +1,17 @@
 -- Whether a step is answered, from what the search reaches. Assumes nothing.
-use mathlib.Core.Path.{_≡_, refl, sym, ap, subst, _∙_}
+use mathlib.Core.Path.{_≡_, sym, ap, subst, _∙_}
 use mathlib.Core.List.{List}
 use mathlib.Core.Logic.{⊎-elim}
-use mathlib.Core.Bool.{Bool, true, false, not, _&&_}
-use Prim.Native.Nat.{ℕ, _+_, _*_, _<_}
+use mathlib.Core.Bool.{Bool, true, false, not}
+use Prim.Native.Nat.{ℕ, _*_, _<_}
 use lib.Dec.{T, eqb}
 use lib.ListN.{getD, drop}
 use Rattle.std.proofs.shelf.Lists.{getD-take, getD-drop}
 use Rattle.std.proofs.shelf.Tests.{cases-bool, and-left, and-right, and-from, not-from-true, not-from-false}
 use Rattle.model.specs.Machines.{Meaning, Bounded, Step, states}
-use Rattle.model.proofs.Tests.{holds-true}
 use Rattle.until.specs.Rows.{rowOf}
 use Rattle.until.specs.Walks.{Walk}
-use Rattle.until.specs.Searches.{isMarked, Marked, Reached}
+use Rattle.until.specs.Searches.{isMarked, Marked, WalkFromState, Reached}
 use Rattle.until.proofs.Walks.{walk-map, walk-end, walk-there, walk-within}
 use Rattle.until.proofs.Decided.{walks-decides}
 use Rattle.sheet.specs.Memory.{stands}
@@ -34,6 +33,18 @@ module _ {L : Type 0} (m : Meaning L) (bounded : Bounded m) (pairs : List ℕ) (
   to-rows : (u : ℕ) → Walk (Step m) (Stood s) (Stood u) t → Walk (Step m) (Marked (rowOf (states m) pairs s)) (Marked (rowOf (states m) pairs u)) t
   unfolding Stood
   to-rows u w = walk-map m (λ v l. subst T (sym (row-stands (states m) pairs s v l))) (λ v l. subst T (sym (row-stands (states m) pairs u v l))) low w
+
+  pub rows-unanswered : (u : ℕ) → (WalkFromState m (rowOf (states m) pairs s) (Marked (rowOf (states m) pairs u)) t → ⊥) → answered m pairs s u t ≡ false
+  unfolding Stood
+  rows-unanswered u none =
+      ⊎-elim
+      (λ e. absurd (none (low, to-rows u (walks-decides m (stands (states m) pairs s) (stands (states m) pairs u) bounded t .0 e))))
+      (λ e. e)
+      (cases-bool (answered m pairs s u t))
+
+  pub rows-answered : (u : ℕ) → Walk (Step m) (Marked (rowOf (states m) pairs s)) (Marked (rowOf (states m) pairs u)) t → answered m pairs s u t ≡ true
+  unfolding Stood
+  rows-answered u w = walks-decides m (stands (states m) pairs s) (stands (states m) pairs u) bounded t .1 (to-stands u w)
 
   module _ (ends : List Bool) (reached : Reached m (rowOf (states m) pairs s) t ends) (u : ℕ) where
     found-answer : (v : ℕ) → getD ends v false ≡ true → Marked (rowOf (states m) pairs u) v → answered m pairs s u t ≡ true

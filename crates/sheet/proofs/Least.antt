@@ -1,6 +1,6 @@
 -- The least number that passes. Assumes nothing.
 use mathlib.Core.Path.{_≡_, refl, sym, ap, _∙_}
-use mathlib.Core.Bool.{Bool, true, false, cond}
+use mathlib.Core.Bool.{Bool, true, false}
 use Prim.Native.Nat.{ℕ, zero, suc, _<_}
 use native.Mathlib.Omega.{arith}
 use lib.Dec.{ltb}
@@ -8,13 +8,13 @@ use Rattle.std.specs.declared.option.Option.the-variants.{None, Some}
 use Rattle.std.proofs.shelf.Tests.{cond-true, cond-false, lt-ltb, le-ltb}
 use Rattle.sheet.specs.Verdicts.{least, below}
 
-least-is : (p : ℕ → Bool) (n v : ℕ) → v < n → p v ≡ true → ((w : ℕ) → w < v → p w ≡ false) → least p n ≡ v
+pub least-is : (p : ℕ → Bool) (n v : ℕ) → v < n → p v ≡ true → ((w : ℕ) → w < v → p w ≡ false) → least p n ≡ v
 least-is p zero v l h f = absurd (omega arith)
 least-is p (suc n) zero l h f = cond-true (p zero) zero (suc (least (λ i. p (suc i)) n)) h
 least-is p (suc n) (suc v) l h f =
     cond-false (p zero) zero (suc (least (λ i. p (suc i)) n)) (f zero (omega arith)) ∙ ap suc (least-is (λ i. p (suc i)) n v (omega arith) h (λ w k. f (suc w) (omega arith)))
 
-least-none : (p : ℕ → Bool) (n : ℕ) → ((w : ℕ) → w < n → p w ≡ false) → least p n ≡ n
+pub least-none : (p : ℕ → Bool) (n : ℕ) → ((w : ℕ) → w < n → p w ≡ false) → least p n ≡ n
 least-none p zero f = refl
 least-none p (suc n) f =
     cond-false (p zero) zero (suc (least (λ i. p (suc i)) n)) (f zero (omega arith)) ∙ ap suc (least-none (λ i. p (suc i)) n (λ w k. f (suc w) (omega arith)))

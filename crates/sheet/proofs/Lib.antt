@@ -6,3 +6,4 @@ pub mod Passing
 pub mod Agreement
 pub mod Growing
 pub mod Settling
+pub mod Likeness

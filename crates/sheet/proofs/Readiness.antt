@@ -1,6 +1,5 @@
 -- Room and the sum of pairs and strikes last from try to try. Assumes nothing.
-use mathlib.Core.Path.{_≡_, refl, sym, ap, subst, _∙_}
-use mathlib.Core.List.{List}
+use mathlib.Core.Path.{_≡_, sym, ap, subst, _∙_}
 use mathlib.Core.Logic.{⊎-elim}
 use mathlib.Core.Bool.{Bool, true, false, not, cond}
 use Prim.Native.Nat.{ℕ, zero, suc, _+_, _*_, _<_, _≤_}
@@ -9,7 +8,7 @@ use lib.Dec.{eqb}
 use lib.ListN.{length, getD, take, set}
 use lib.Seq.{take-set-lt}
 use lib.Arith.{digits-lt}
-use Rattle.std.specs.shelf.Lists.{countBy, sumBy}
+use Rattle.std.specs.shelf.Lists.{countBy}
 use Rattle.std.specs.declared.option.Option.{Option}
 use Rattle.std.specs.declared.option.Option.the-variants.{None, Some}
 use Rattle.std.proofs.shelf.Sums.{sumBy-set, getD-le-sumBy}
@@ -17,8 +16,8 @@ use Rattle.std.proofs.shelf.Lists.{length-set, length-take-le, getD-take}
 use Rattle.std.proofs.shelf.Tests.{cases-bool, cond-true, cond-false}
 use Rattle.strikes.specs.declared.strike.Ground.{Ground}
 use Rattle.strikes.specs.declared.strike.Strike.{Strike}
-use Rattle.sheet.specs.Memory.{Memory, memory, stands, standing, Ready}
-use Rattle.sheet.specs.Verdicts.{Setting, size, judged, strike, applied, groundOf, verdictOf, tried, swept, passed}
+use Rattle.sheet.specs.Memory.{Memory, memory, stands, Ready}
+use Rattle.sheet.specs.Verdicts.{Setting, size, judged, strike, applied, groundOf, tried, swept, passed, next, settledIn}
 
 -- 1 for a byte that stands
 abbrev bit : ℕ → ℕ
@@ -110,3 +109,14 @@ ready-pass on now after ready e = (
   subst (λ x. Ready (size on) x) (sym e) (ready-passed on now ready (size on) (omega arith)),
   subst (λ x. now .made ≤ x .made) (sym e) (made-passed on now (size on)),
 )
+
+-- all passes
+pub made-settled : {L : Type 0} (on : Setting L) (most : ℕ) (mem : Memory) → mem .made ≤ settledIn on most mem .0 .made
+made-settled on zero mem = omega arith
+made-settled on (suc most) mem =
+    let after = passed on mem (size on) in
+    more (eqb (after .made) (mem .made)) after (settledIn on most after) (omega (arith, made-passed on mem (size on), made-settled on most after)) (made-passed on mem (size on))
+  where
+    more : (b : Bool) (after : Memory) (rest : Memory × ℕ) → mem .made ≤ rest .0 .made → mem .made ≤ after .made → mem .made ≤ next b after rest .0 .made
+    more true after rest x y = y
+    more false after rest x y = x

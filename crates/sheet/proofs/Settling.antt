@@ -1,9 +1,9 @@
 -- A pass that strikes nothing leaves no pair with a ground, so settling makes a stable sheet. Assumes nothing.
 use mathlib.Core.Path.{_≡_, refl, sym, ap, subst, _∙_}
 use mathlib.Core.Logic.{⊎-elim}
-use mathlib.Core.Bool.{Bool, true, false, not}
+use mathlib.Core.Bool.{Bool, true, false}
 use mathlib.Core.List.{List}
-use Prim.Native.Nat.{ℕ, zero, suc, _+_, _-_, _*_, _<_, _≤_}
+use Prim.Native.Nat.{ℕ, zero, suc, _+_, _*_, _<_}
 use native.Mathlib.Omega.{arith}
 use native.Mathlib.Numerals.{add-one}
 use lib.Dec.{T, eqb}
@@ -14,13 +14,13 @@ use Rattle.model.specs.Machines.{Bounded}
 use Rattle.model.proofs.Tests.{holds-true}
 use Rattle.strikes.specs.declared.strike.Ground.{Ground}
 use Rattle.strikes.specs.Strikes.{Stable}
-use Rattle.sheet.specs.Memory.{Memory, stands, history, Ready}
+use Rattle.sheet.specs.Memory.{Memory, stands, history}
 use Rattle.sheet.specs.Verdicts.{Setting, size, judged, applied, groundOf, tried, swept, passed, next, settledIn, settled}
 use Rattle.sheet.specs.Genuine.{Genuine, Grown}
 use Rattle.sheet.proofs.Grounds.{no-ground}
 use Rattle.sheet.proofs.Readiness.{made-tried, made-swept, made-passed, made-few, tried-stood, tried-struck}
 use Rattle.sheet.proofs.Agreement.{strikes-to-bytes}
-use Rattle.sheet.proofs.Growing.{grown-self, grown-then, grown-passed, genuine-passed, rests-passed}
+use Rattle.sheet.proofs.Growing.{grown-then, grown-passed, genuine-passed, rests-passed}
 
 module _ {L : Type 0} (on : Setting L) where
   -- the pair is struck, or has no ground

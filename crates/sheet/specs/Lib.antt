@@ -2,3 +2,5 @@ pub mod Lasting
 pub mod Memory
 pub mod Verdicts
 pub mod Genuine
+pub mod Pages
+pub mod Calls

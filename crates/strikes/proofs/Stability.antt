@@ -1,10 +1,8 @@
 -- Where no standing pair has a ground, what stands is a simulation. Assumes nothing.
-use mathlib.Core.Path.{_≡_}
 use mathlib.Core.List.{List}
 use mathlib.Core.Logic.{⊎-elim}
-use mathlib.Core.Bool.{Bool, true, false, not}
+use mathlib.Core.Bool.{Bool, not}
 use Prim.Native.Nat.{ℕ, _<_}
-use lib.Dec.{T}
 use Rattle.std.proofs.shelf.Tests.{cases-bool}
 use Rattle.std.proofs.shelf.Ways.{not-from-decides}
 use Rattle.model.specs.Machines.{Meaning, Bounded, states, labelOf, Step}

@@ -1,5 +1,7 @@
 //! A strike.
 use model::State;
+ghost use mathlib.Core.Path.{_≡_};
+ghost use Rattle.strikes.specs.Strikes.{names as names-pair};
 
 /// Why a pair of states is told apart.
 #[derive(Clone, Copy, PartialEq, Eq, Debug)]
@@ -16,4 +18,13 @@ pub struct Strike {
     pub first: State,
     pub second: State,
     pub ground: Ground,
+}
+
+impl Strike {
+    /// Whether this strikes the pair (s, t).
+    pub fn names(&self, s: usize, t: usize) -> bool
+        ensures { λ r. ⌜ r ≡ names-pair (now (self .entry)) s t ⌝ }
+    {
+        usize::from(self.first) == s && usize::from(self.second) == t
+    }
 }

@@ -9,7 +9,6 @@ use model::Order;
 use model::Refusal;
 ghost use Prim.Native.Nat.{_+_, _*_, _<_, _≤_};
 ghost use lib.ListN.{length};
-ghost use mathlib.Core.Path.{_≡_};
 ghost use Rattle.std.specs.Orderings.{Decides};
 ghost use Rattle.model.specs.Machines.{states};
 ghost use Rattle.until.specs.Lines.{Evaluates};

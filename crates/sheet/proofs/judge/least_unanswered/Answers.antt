@@ -2,14 +2,13 @@ use mathlib.Core.Path.{_≡_, sym, ap, subst, _∙_}
 use mathlib.Core.Bool.{false}
 use native.Mathlib.Omega.{arith}
 use borrow.Author.Count.{below-more}
-use lib.Dec.{T}
 use Rattle.model.specs.Machines.{states}
 use Rattle.model.proofs.Tests.{true-holds}
 use Rattle.until.specs.Rows.{rowOf}
-use Rattle.until.specs.Searches.{isMarked, Marked, Reached}
+use Rattle.until.specs.Searches.{Marked, Reached}
 use Rattle.sheet.specs.Verdicts.{unanswered}
 use Rattle.sheet.proofs.Least.{below-is, below-none}
-use Rattle.sheet.proofs.Judging.{step-answered, step-unanswered, no-step}
+use Rattle.sheet.proofs.Judging.{step-answered, step-unanswered}
 use Rattle.sheet.proofs.judge.least_unanswered.Needs as need
 
 pub steps-again-then-marked : need.steps-again-then-marked

@@ -2,7 +2,6 @@ use mathlib.Core.Path.{ap}
 use native.Mathlib.Omega.{arith}
 use Prim.Native.Nat.{_*_}
 use Rattle.std.proofs.shelf.Bits.{mul-add-lt}
-use Rattle.model.specs.Machines.{states}
 use Rattle.sheet.proofs.striking.attempt.Needs as need
 
 pub index-pairs-s : need.index-pairs-s

@@ -1,6 +1,6 @@
 use mathlib.Core.Path.{sym, subst}
 use native.Mathlib.Omega.{arith}
-use Prim.Native.Nat.{_<_, _≤_}
+use Prim.Native.Nat.{_≤_}
 use Rattle.model.specs.Machines.{states}
 use Rattle.sheet.specs.Memory.{memory, Ready}
 use Rattle.sheet.specs.Verdicts.{setting}

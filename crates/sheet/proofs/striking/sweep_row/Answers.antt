@@ -1,10 +1,10 @@
-use mathlib.Core.Path.{_≡_, sym, ap, subst, _∙_}
+use mathlib.Core.Path.{sym, ap, subst, _∙_}
 use native.Mathlib.Omega.{arith}
-use Prim.Native.Nat.{_+_, _*_, _<_, _≤_}
+use Prim.Native.Nat.{_+_, _≤_}
 use native.Mathlib.Nat.{mul-le-mul}
-use Rattle.model.specs.Machines.{states, stateBound}
-use Rattle.sheet.specs.Memory.{Memory, memory, Ready}
-use Rattle.sheet.specs.Verdicts.{Setting, setting, size, strikesIn}
+use Rattle.model.specs.Machines.{states}
+use Rattle.sheet.specs.Memory.{memory, Ready}
+use Rattle.sheet.specs.Verdicts.{setting, strikesIn}
 use Rattle.sheet.proofs.Readiness.{ready-swept, made-few}
 use Rattle.sheet.proofs.Passing.{swept-more}
 use Rattle.sheet.proofs.striking.sweep_row.Needs as need

@@ -3,7 +3,6 @@ use native.Mathlib.Omega.{arith}
 use Prim.Native.Nat.{_-_, _*_, _+_, _<_}
 use lib.ListN.{take}
 use Rattle.std.specs.Orderings.{Decides}
-use Rattle.std.proofs.shelf.Lists.{length-take-le}
 use Rattle.model.specs.Machines.{states}
 use Rattle.until.specs.Filled.{HoldsBy}
 use Rattle.until.proofs.Fill.{filling-none, filling-more, filling-all, says-test}
