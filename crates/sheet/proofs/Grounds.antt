@@ -19,7 +19,7 @@ use Rattle.strikes.specs.Strikes.{Grounded}
 use Rattle.sheet.specs.Memory.{stands}
 use Rattle.sheet.specs.Verdicts.{Setting, size, least, below, byStep, answered, unanswered, leastUnanswered, groundOf}
 
-least-has : (p : ℕ → Bool) (n : ℕ) → least p n < n → p (least p n) ≡ true
+pub least-has : (p : ℕ → Bool) (n : ℕ) → least p n < n → p (least p n) ≡ true
 least-has p zero h = absurd (omega arith)
 least-has p (suc n) h = split (p zero) refl (least-has (λ i. p (suc i)) n) h
   where
@@ -28,7 +28,7 @@ least-has p (suc n) h = split (p zero) refl (least-has (λ i. p (suc i)) n) h
     split true e rest l = e
     split false e rest l = rest (omega arith)
 
-least-before : (p : ℕ → Bool) (n w : ℕ) → w < least p n → p w ≡ false
+pub least-before : (p : ℕ → Bool) (n w : ℕ) → w < least p n → p w ≡ false
 least-before p zero w h = absurd (omega arith)
 least-before p (suc n) w h = split (p zero) refl (least-before (λ i. p (suc i)) n) w h
   where

@@ -7,3 +7,4 @@ pub mod Agreement
 pub mod Growing
 pub mod Settling
 pub mod Likeness
+pub mod Promises
