@@ -3,7 +3,7 @@ ghost use mathlib.Core.Path.{_≡_};
 ghost use Rattle.std.specs.shelf.Maps.{nth};
 
 /// The label of state `s`, if the list has one.
-pub fn label_at<L: Copy>(labels: &[L], s: usize) -> Option<L>
+pub(crate) fn label_at<L: Copy>(labels: &[L], s: usize) -> Option<L>
     ensures { λ r. ⌜ r ≡ nth (now (labels .entry)) s ⌝ }
 {
     labels.get(s).copied()

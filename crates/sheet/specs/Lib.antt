@@ -5,3 +5,4 @@ pub mod Genuine
 pub mod Promises
 pub mod Pages
 pub mod Calls
+pub mod Replies

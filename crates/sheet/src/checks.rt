@@ -37,7 +37,7 @@ fn count_standing(pairs: &[u8], k: usize) -> usize
 }
 
 /// Whether the sheet is not the machine's, or its strikes and the standing pairs do not add up.
-pub fn is_unlike<M: Machine>(machine: &M, sheet: &Sheet, pairs: &[u8]) -> bool
+pub(crate) fn is_unlike<M: Machine>(machine: &M, sheet: &Sheet, pairs: &[u8]) -> bool
     requires { ⌜ now sheet .count * now sheet .count ≤ length (now pairs) ⌝ }
     ensures { λ r. ⌜ r ≡ unlike (states (M·Machine .meaning (now (machine .entry)))) (now (sheet .entry)) (now (pairs .entry)) ⌝ }
 {

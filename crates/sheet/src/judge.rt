@@ -53,7 +53,7 @@ fn least_unanswered<M: Machine>(machine: &M, pairs: &[u8], s: usize, t: usize) -
 }
 
 /// The ground to strike the pair (s, t) on, where it stands: by label, or by the least unanswered step.
-pub fn ground_of<M: Machine, O: Order<Label = M::Label>>(
+pub(crate) fn ground_of<M: Machine, O: Order<Label = M::Label>>(
     machine: &M,
     order: &O,
     pairs: &[u8],

@@ -4,5 +4,6 @@ mod judge;
 mod lookup;
 pub mod memory;
 pub mod sheet;
+pub mod request;
 mod striking;
 pub mod verdict;

@@ -9,7 +9,7 @@ ghost use Rattle.sheet.specs.Pages.{firstNaming};
 ghost use Rattle.sheet.specs.Calls.{areAlike};
 
 /// Whether `s` and `u` stand both ways.
-pub fn alike(pairs: &[u8], n: usize, s: usize, u: usize) -> bool
+pub(crate) fn alike(pairs: &[u8], n: usize, s: usize, u: usize) -> bool
     requires first { ⌜ s < n ⌝ }
     requires second { ⌜ u < n ⌝ }
     requires room { ⌜ n * n ≤ length (now pairs) ⌝ }
@@ -19,7 +19,7 @@ pub fn alike(pairs: &[u8], n: usize, s: usize, u: usize) -> bool
 }
 
 /// The first of the first `made` records that names the pair (s, t).
-pub fn first_naming<S: StrikeMemory>(strikes: &S, made: usize, s: usize, t: usize) -> Option<Strike>
+pub(crate) fn first_naming<S: StrikeMemory>(strikes: &S, made: usize, s: usize, t: usize) -> Option<Strike>
     ensures { λ r. ⌜ r ≡ firstNaming (take made (S·StrikeMemory .records (now (strikes .entry)))) s t ⌝ }
 {
     for k in 0..made {

@@ -14,7 +14,7 @@ ghost use Rattle.sheet.specs.Memory.{memory as held, Ready};
 ghost use Rattle.sheet.specs.Verdicts.{setting, verdictOf, strikesIn, tried, swept, passed, settled};
 
 /// Tries the pair (s, t), and strikes it if it stands and has a ground.
-pub fn attempt<M: Machine, O: Order<Label = M::Label>, S: StrikeMemory>(
+pub(crate) fn attempt<M: Machine, O: Order<Label = M::Label>, S: StrikeMemory>(
     machine: &M,
     order: &O,
     pairs: &mut [u8],
@@ -50,7 +50,7 @@ pub fn attempt<M: Machine, O: Order<Label = M::Label>, S: StrikeMemory>(
 }
 
 /// Tries the pairs of row `s` in turn; answers how many strikes there are then.
-pub fn sweep_row<M: Machine, O: Order<Label = M::Label>, S: StrikeMemory>(
+pub(crate) fn sweep_row<M: Machine, O: Order<Label = M::Label>, S: StrikeMemory>(
     machine: &M,
     order: &O,
     pairs: &mut [u8],
@@ -90,7 +90,7 @@ fn pass<M: Machine, O: Order<Label = M::Label>, S: StrikeMemory>(
 }
 
 /// Passes until one strikes nothing; answers how many strikes there are then, and the passes taken.
-pub fn strike_all<M: Machine, O: Order<Label = M::Label>, S: StrikeMemory>(
+pub(crate) fn strike_all<M: Machine, O: Order<Label = M::Label>, S: StrikeMemory>(
     machine: &M,
     order: &O,
     pairs: &mut [u8],
