@@ -8,3 +8,4 @@ pub mod Growing
 pub mod Settling
 pub mod Likeness
 pub mod Promises
+pub mod Came

@@ -6,3 +6,4 @@ pub mod Promises
 pub mod Pages
 pub mod Calls
 pub mod Replies
+pub mod Law

@@ -2,7 +2,7 @@
 use mathlib.Core.Path.{_≡_}
 use mathlib.Core.List.{List, [], _∷_}
 use mathlib.Core.Bool.{Bool, not, cond, _||_}
-use Prim.Native.Nat.{ℕ, _+_, _*_}
+use Prim.Native.Nat.{ℕ, _+_, _*_, _<_}
 use lib.Dec.{eqb, leb, ltb}
 use lib.ListN.{length, take}
 use Rattle.std.specs.Options.{isSome}
@@ -35,8 +35,9 @@ held p = memory (p .pairs) (p .records) (p .sheet .strikes)
 abbrev pub holding : Page → Bool → Memory → Page
 holding p settled mem = page (sheetOf (p .sheet .count) (mem .made) settled) (mem .pairs) (mem .records)
 
--- The page came about by strikes with a ground since it was begun.
+-- The page came about by strikes with a ground since it was begun, for a machine that has states.
 pub record Came {L : Type 0} (on : Setting L) (p : Page) : Type 0 where
+  pub some : 0 < size on
   pub counted : p .sheet .count ≡ size on
   pub genuine : Genuine on (p .sheet .settled) (held p)
 
