@@ -26,11 +26,6 @@ sum-up (Some k) r c = let x = c .refused k refl in inl (k, refl, x .0, x .1)
 sum-up None (Ok a) c = inr (a, refl, c .answered refl, refl)
 sum-up None (Err e) c = absurd (c .answered refl)
 
--- tests that find nothing are all false
-pub none-found : (b : Bool) (k : ℕ) (rest : List (Bool × ℕ)) → cause ((b, k) ∷ rest) ≡ None → (b ≡ false) × (cause rest ≡ None)
-none-found false k rest e = (refl, e)
-none-found true k rest e = let z : _≡_ {A = ℕ} 0 1 = cc in absurd (omega arith)
-
 module _ {L : Type 0} (on : Setting L) (p : Page) (came : Came on p) where
   square : p .sheet .count * p .sheet .count ≡ size on * size on
   square = ap (λ n. n * n) (came .counted)
@@ -43,9 +38,6 @@ module _ {L : Type 0} (on : Setting L) (p : Page) (came : Came on p) where
 
   pub inside : (s : ℕ) → s < size on → outside (p .sheet) s ≡ false
   inside s h = lt-leb _ _ (omega (arith, came .counted))
-
-  pub inside-low : (s : ℕ) → outside (p .sheet) s ≡ false → s < size on
-  inside-low s e = omega (arith, leb-false _ _ e, came .counted)
 
   pub alike : unlike (size on) (p .sheet) (p .pairs) ≡ false
   alike =

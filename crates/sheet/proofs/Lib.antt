@@ -9,3 +9,4 @@ pub mod Settling
 pub mod Likeness
 pub mod Promises
 pub mod Came
+pub mod Moves
