@@ -21,7 +21,7 @@ use Rattle.sheet.specs.Pages.{Page, held, holding, Came, shortPairs, shortReco
 
 -- a call is refused and changes nothing, or its answer is good
 pub sum-up : {A : Type 0} {Unchanged : Type 0} {Good : A → Type 0} (found : Option ℕ) (r : Result A Refusal) → Checked found Unchanged Good r →
-  ((k : ℕ) × (found ≡ Some k) × Refused k r × Unchanged) ⊎ ((a : A) × (r ≡ Ok a) × Good a × (found ≡ None))
+    ((k : ℕ) × (found ≡ Some k) × Refused k r × Unchanged) ⊎ ((a : A) × (r ≡ Ok a) × Good a × (found ≡ None))
 sum-up (Some k) r c = let x = c .refused k refl in inl (k, refl, x .0, x .1)
 sum-up None (Ok a) c = inr (a, refl, c .answered refl, refl)
 sum-up None (Err e) c = absurd (c .answered refl)
@@ -42,7 +42,7 @@ module _ {L : Type 0} (on : Setting L) (p : Page) (came : Came on p) where
   pub alike : unlike (size on) (p .sheet) (p .pairs) ≡ false
   alike =
       let sum : standing (p .sheet .count * p .sheet .count) (p .pairs) + p .sheet .strikes ≡ p .sheet .count * p .sheet .count =
-        ap (λ n. standing n (p .pairs) + p .sheet .strikes) square ∙ came .genuine .ready .adds-up ∙ sym square in
+      ap (λ n. standing n (p .pairs) + p .sheet .strikes) square ∙ came .genuine .ready .adds-up ∙ sym square in
       or-from _ _ (ne-eqb (p .sheet .count) 0 (λ e. omega (arith, came .counted, came .some)))
       (or-from _ _ (not-from-true _ (eq-eqb (p .sheet .count) (size on) (came .counted))) (not-from-true _ (eq-eqb _ _ sum)))
 

@@ -10,3 +10,4 @@ pub mod Likeness
 pub mod Promises
 pub mod Came
 pub mod Moves
+pub mod Later

@@ -40,13 +40,14 @@ module _ {L : Type 0} (on : Setting L) (bounded : Bounded (on .machine)) (p : Pa
   pub try-low : (s t : ℕ) → tryCause (size on) p s t ≡ None → (s < size on) × (t < size on)
   try-low s t e =
       let first : s < size on = low-else s (λ out.
-        let seven : tryCause (size on) p s t ≡ Some 7 = rw (pairs-fit on p came, records-fit on p came, out) refl in
-        let z : _≡_ {A = ℕ} 0 1 = cc in omega arith) in
-      (first,
-       low-else t (λ out.
-        let in-range = inside on p came s first in
-        let seven : tryCause (size on) p s t ≡ Some 7 = rw (pairs-fit on p came, records-fit on p came, in-range, out) refl in
-        let z : _≡_ {A = ℕ} 0 1 = cc in omega arith))
+      let seven : tryCause (size on) p s t ≡ Some 7 = rw (pairs-fit on p came, records-fit on p came, out) refl in
+      let z : _≡_ {A = ℕ} 0 1 = cc in omega arith) in (
+        first,
+        low-else t (λ out.
+            let in-range = inside on p came s first in
+            let seven : tryCause (size on) p s t ≡ Some 7 = rw (pairs-fit on p came, records-fit on p came, in-range, out) refl in
+            let z : _≡_ {A = ℕ} 0 1 = cc in omega arith),
+      )
 
   pub sweep-low : (s : ℕ) → sweepCause (size on) p s ≡ None → s < size on
   sweep-low s e = low-else s (λ out.
@@ -58,22 +59,22 @@ module _ {L : Type 0} (on : Setting L) (bounded : Bounded (on .machine)) (p : Pa
       ⊎-elim
       (λ no-answer. moved-same after (no-answer .3))
       (λ good.
-        let low = try-low s t (good .3) in
-        moved-to (p .sheet .settled) (tried on (held p) s t) (genuine-tried on bounded (p .sheet .settled) (held p) (came .genuine) s t (low .0) (low .1)) (grown-tried on (held p) s t) (λ z. z) after (good .2 .1))
+      let low = try-low s t (good .3) in
+      moved-to (p .sheet .settled) (tried on (held p) s t) (genuine-tried on bounded (p .sheet .settled) (held p) (came .genuine) s t (low .0) (low .1)) (grown-tried on (held p) s t) (λ z. z) after (good .2 .1))
       (sum-up _ (x .0) (x .2))
   moves (Sweep s) a after x =
       ⊎-elim
       (λ no-answer. moved-same after (no-answer .3))
       (λ good.
-        let low = sweep-low s (good .3) in
-        moved-to (p .sheet .settled) (swept on (held p) s (size on)) (genuine-swept on bounded (p .sheet .settled) (held p) (came .genuine) s low (size on) (omega arith)) (grown-swept on (held p) s (size on)) (λ z. z) after (good .2 .1))
+      let low = sweep-low s (good .3) in
+      moved-to (p .sheet .settled) (swept on (held p) s (size on)) (genuine-swept on bounded (p .sheet .settled) (held p) (came .genuine) s low (size on) (omega arith)) (grown-swept on (held p) s (size on)) (λ z. z) after (good .2 .1))
       (sum-up _ (x .0) (x .2))
   moves Settle a after x =
       ⊎-elim
       (λ no-answer. moved-same after (no-answer .3))
       (λ good.
-        let done = settles on bounded (p .sheet .settled) (held p) (came .genuine) in
-        moved-to true (settled on (held p) .0) (done .0) (done .1) (λ _. refl) after (good .2 .2))
+      let done = settles on bounded (p .sheet .settled) (held p) (came .genuine) in
+      moved-to true (settled on (held p) .0) (done .0) (done .1) (λ _. refl) after (good .2 .2))
       (sum-up _ (x .0) (x .2))
   moves (Class s) a after x = moved-same after (x .3)
   moves (Below s t) a after x = moved-same after (x .3)

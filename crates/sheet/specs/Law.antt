@@ -58,7 +58,7 @@ module _ {L : Type 0} (on : Setting L) where
     pub classes-given : (i j s : ℕ) (a b : Reply) → i < j → Asked requests replies i Settle b → Asked requests replies j (Class s) a → s < size on → (c : ℕ) × (a ≡ ClassIs c)
     pub below-given : (i j s t : ℕ) (a b : Reply) → i < j → Asked requests replies i Settle b → Asked requests replies j (Below s t) a → s < size on → t < size on → (c : Bool) × (a ≡ IsBelow c)
     pub walks-given : (i j s t u : ℕ) (a b : Reply) → i < j → Asked requests replies i Settle b → Asked requests replies j (Answer s t u) a →
-      Step (on .machine) s u → t < size on → Entails (on .atMost) (on .machine) s t → (k : ℕ) × (memory : List ℕ) × (a ≡ Walked k memory)
+        Step (on .machine) s u → t < size on → Entails (on .atMost) (on .machine) s t → (k : ℕ) × (memory : List ℕ) × (a ≡ Walked k memory)
     -- the reason of a pair that was said to be struck
     pub no-has-reason : (i j s t : ℕ) (a : Reply) → i < j → Asked requests replies i (Below s t) (IsBelow false) → Asked requests replies j (Reason s t) a → (k : Strike) × (a ≡ ReasonIs k)
     pub strike-has-reason : (i j s t : ℕ) (v : Verdict) (a : Reply) → i < j → Asked requests replies i (Try s t) (Tried v) → SaysStruck v → Asked requests replies j (Reason s t) a → (k : Strike) × (a ≡ ReasonIs k)

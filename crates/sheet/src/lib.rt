@@ -3,7 +3,7 @@ mod checks;
 mod judge;
 mod lookup;
 pub mod memory;
-pub mod sheet;
 pub mod request;
+pub mod sheet;
 mod striking;
 pub mod verdict;

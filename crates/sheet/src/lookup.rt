@@ -19,7 +19,12 @@ pub(crate) fn alike(pairs: &[u8], n: usize, s: usize, u: usize) -> bool
 }
 
 /// The first of the first `made` records that names the pair (s, t).
-pub(crate) fn first_naming<S: StrikeMemory>(strikes: &S, made: usize, s: usize, t: usize) -> Option<Strike>
+pub(crate) fn first_naming<S: StrikeMemory>(
+    strikes: &S,
+    made: usize,
+    s: usize,
+    t: usize,
+) -> Option<Strike>
     ensures { λ r. ⌜ r ≡ firstNaming (take made (S·StrikeMemory .records (now (strikes .entry)))) s t ⌝ }
 {
     for k in 0..made {
