@@ -1,23 +1,20 @@
 -- What checks find on a page that came about by strikes, and what good answers say. Assumes nothing.
-use mathlib.Core.Path.{_≡_, refl, sym, ap, subst, _∙_}
-use mathlib.Core.List.{List, _∷_}
-use mathlib.Core.Logic.{_⊎_, inl, inr, ⊎-elim}
-use mathlib.Core.Bool.{Bool, true, false, not, cond, _||_}
-use Prim.Native.Nat.{ℕ, _+_, _*_, _<_, _≤_}
+use mathlib.Core.Path.{_≡_, refl, sym, ap, _∙_}
+use mathlib.Core.Logic.{_⊎_, inl, inr}
+use mathlib.Core.Bool.{Bool, false}
+use Prim.Native.Nat.{ℕ, _+_, _*_, _<_}
 use native.Mathlib.Omega.{arith}
-use lib.Dec.{eqb, leb, ltb}
-use lib.ListN.{length}
 use Rattle.std.specs.declared.option.Option.{Option}
 use Rattle.std.specs.declared.option.Option.the-variants.{None, Some}
 use Rattle.std.specs.declared.result.Result.{Result}
 use Rattle.std.specs.declared.result.Result.the-variants.{Ok, Err}
-use Rattle.std.proofs.shelf.Tests.{cases-bool, cond-true, cond-false, le-ltb, lt-leb, leb-false, eq-eqb, ne-eqb, or-from, not-from-true}
+use Rattle.std.proofs.shelf.Tests.{le-ltb, lt-leb, eq-eqb, ne-eqb, or-from, not-from-true}
 use Rattle.model.specs.declared.refusal.Refusal.{Refusal}
-use Rattle.model.specs.Refusals.{Refused, Answered, Checked, cause}
-use Rattle.sheet.specs.Memory.{Memory, memory, standing}
+use Rattle.model.specs.Refusals.{Refused, Checked}
+use Rattle.sheet.specs.Memory.{Memory, standing}
 use Rattle.sheet.specs.Verdicts.{Setting, size}
 use Rattle.sheet.specs.Genuine.{Genuine}
-use Rattle.sheet.specs.Pages.{Page, held, holding, Came, shortPairs, shortRecords, outside, unlike}
+use Rattle.sheet.specs.Pages.{Page, holding, Came, shortPairs, shortRecords, outside, unlike}
 
 -- a call is refused and changes nothing, or its answer is good
 pub sum-up : {A : Type 0} {Unchanged : Type 0} {Good : A → Type 0} (found : Option ℕ) (r : Result A Refusal) → Checked found Unchanged Good r →

@@ -5,20 +5,21 @@ use mathlib.Core.Logic.{⊎-elim}
 use mathlib.Core.Bool.{Bool, true}
 use Prim.Native.Nat.{ℕ, zero, suc, _+_, _*_, _<_, _≤_}
 use native.Mathlib.Omega.{arith}
-use lib.Dec.{T}
+use lib.Dec.{T, eqb}
 use lib.ListN.{length, set, take}
 use Rattle.std.specs.declared.option.Option.{Option}
 use Rattle.std.specs.declared.option.Option.the-variants.{None, Some}
 use Rattle.std.proofs.shelf.Lists.{reverse-append, take-more-set, take-set, take-take}
-use Rattle.std.proofs.shelf.Tests.{cases-bool}
+use Rattle.std.proofs.shelf.Tests.{cases-bool, and-from, or-left, eq-eqb, not-false, cond-true}
 use Rattle.model.specs.Machines.{Bounded}
 use Rattle.model.proofs.Tests.{true-holds}
 use Rattle.strikes.specs.declared.strike.Ground.{Ground}
 use Rattle.strikes.specs.declared.strike.Strike.{Strike}
-use Rattle.strikes.specs.Strikes.{Standing, Fair, Lawful}
+use Rattle.strikes.specs.Strikes.{Standing, Fair, Lawful, names, struck}
 use Rattle.sheet.specs.Memory.{Memory, memory, stands, history}
-use Rattle.sheet.specs.Verdicts.{Setting, size, strike, judged, applied, groundOf, tried, swept, passed}
+use Rattle.sheet.specs.Verdicts.{Setting, size, strike, judged, applied, groundOf, verdictOf, tried, swept, passed}
 use Rattle.sheet.specs.Genuine.{Agrees, Genuine, Grown}
+use Rattle.sheet.specs.Law.{SaysStruck}
 use Rattle.sheet.proofs.Grounds.{ground-there}
 use Rattle.sheet.proofs.Readiness.{strike-room, ready-judged, tried-stood, tried-struck}
 use Rattle.sheet.proofs.Agreement.{agrees-strike, bytes-to-strikes}
@@ -66,6 +67,23 @@ module _ {L : Type 0} (on : Setting L) (bounded : Bounded (on .machine)) (z : Bo
     rests-judged settled None e = refl
     rests-judged settled (Some g) e =
         absurd (genuine .stable settled s t hs ht standing g (bytes-to-strikes (on .atMost) (on .machine) (mem .pairs) (history mem) (genuine .agrees) s t hs ht g (ground-there on bounded (mem .pairs) s t g e)))
+
+    struck-judged : (o : Option Ground) → SaysStruck (judged s t o) → struck (history (applied (size on) mem (judged s t o))) s t ≡ true
+    struck-judged None says = absurd says
+    struck-judged (Some g) says =
+        let room : mem .made < length (mem .records) = omega (arith, strike-room (size on) mem (genuine .ready) s t hs ht stood, genuine .ready .records-fit) in
+        let grown = history-more mem (strike s t g) (set (mem .pairs) (s * size on + t) 0) room in
+        subst (λ ks. struck ks s t ≡ true) (sym grown) (or-left (names (strike s t g) s t) (struck (history mem) s t) (and-from (eqb s s) (eqb t t) (eq-eqb s s refl) (eq-eqb t t refl)))
+
+  -- a pair that a try says is struck is so after it
+  pub struck-tried : (s t : ℕ) → s < size on → t < size on → SaysStruck (verdictOf on (mem .pairs) s t) → struck (history (tried on mem s t)) s t ≡ true
+  struck-tried s t hs ht says =
+      ⊎-elim
+      (λ e.
+      let is : verdictOf on (mem .pairs) s t ≡ judged s t (groundOf on (mem .pairs) s t) = cond-true _ _ _ e in
+      subst (λ x. struck (history x) s t ≡ true) (sym (tried-stood on mem s t e)) (struck-judged s t hs ht e (groundOf on (mem .pairs) s t) (subst SaysStruck is says)))
+      (λ e. subst (λ x. struck (history x) s t ≡ true) (sym (tried-struck on mem s t e)) (not-false _ (sym (genuine .agrees s t hs ht) ∙ e)))
+      (cases-bool (stands (size on) (mem .pairs) s t))
 
   pub genuine-tried : (s t : ℕ) → s < size on → t < size on → Genuine on z (tried on mem s t)
   genuine-tried s t hs ht =

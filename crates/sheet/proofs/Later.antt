@@ -2,15 +2,15 @@
 use mathlib.Core.Path.{_≡_, refl, sym, ap, subst, _∙_}
 use mathlib.Core.List.{List, [], _∷_, _++_, reverse}
 use mathlib.Core.Logic.{⊎-elim}
-use mathlib.Core.Bool.{Bool, true, false, cond, _&&_, _||_}
-use Prim.Native.Nat.{ℕ, zero, suc, _+_, _<_, _≤_}
+use mathlib.Core.Bool.{true}
+use Prim.Native.Nat.{ℕ, zero, suc, _+_, _<_}
 use native.Mathlib.Omega.{arith}
 use lib.Dec.{eqb}
-use lib.ListN.{length, getD, take, drop}
-use Rattle.std.specs.declared.option.Option.the-variants.{None, Some}
+use lib.ListN.{length, take, drop}
+use Rattle.std.specs.declared.option.Option.the-variants.{Some}
 use Rattle.std.specs.shelf.Maps.{nth}
 use Rattle.std.proofs.shelf.Lists.{reverse-append, take-take, take-append-drop, length-take}
-use Rattle.std.proofs.shelf.Tests.{or-right, cases-bool, cases-lt, and-parts, eqb-true, cond-true, cond-false}
+use Rattle.std.proofs.shelf.Tests.{or-right, cases-bool, and-parts, eqb-true, cond-true, cond-false}
 use Rattle.until.specs.Formulas.{Holds}
 use Rattle.strikes.specs.declared.strike.Strike.{Strike}
 use Rattle.strikes.specs.Strikes.{names, struck}

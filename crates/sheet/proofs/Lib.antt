@@ -11,3 +11,4 @@ pub mod Promises
 pub mod Came
 pub mod Moves
 pub mod Later
+pub mod Past

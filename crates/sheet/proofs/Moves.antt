@@ -1,9 +1,8 @@
 -- Every call of a run leaves a page that came about by strikes, with the strikes from before. Assumes nothing.
-use mathlib.Core.Path.{_≡_, refl, sym, ap, subst, _∙_}
-use mathlib.Core.List.{List}
+use mathlib.Core.Path.{_≡_, refl, sym, subst}
 use mathlib.Core.Logic.{⊎-elim}
-use mathlib.Core.Bool.{Bool, true, false}
-use Prim.Native.Nat.{ℕ, _<_, _≤_}
+use mathlib.Core.Bool.{Bool, true}
+use Prim.Native.Nat.{ℕ, _<_}
 use native.Mathlib.Omega.{arith}
 use Rattle.std.specs.declared.option.Option.the-variants.{None, Some}
 use Rattle.std.proofs.shelf.Tests.{cases-lt, le-leb}
@@ -33,7 +32,7 @@ module _ {L : Type 0} (on : Setting L) (bounded : Bounded (on .machine)) (p : Pa
   moved-to z mem genuine grown lasting after e = subst (Moved on p) (sym e) (record { came = came-holding on p came z mem genuine; grown = grown; lasting = lasting })
 
   -- a test that is not refused for the number s
-  low-else : (s : ℕ) → (outside (p .sheet) s ≡ true → ⊥) → s < size on
+  pub low-else : (s : ℕ) → (outside (p .sheet) s ≡ true → ⊥) → s < size on
   low-else s f = ⊎-elim (λ l. l) (λ high. absurd (f (le-leb _ _ (omega (arith, came .counted))))) (cases-lt s (size on))
 
   -- the numbers of a try or a sweep that is not refused are states

@@ -1,24 +1,24 @@
 -- What stands, classes and records tell, where the memory is genuine. Assumes nothing.
-use mathlib.Core.Path.{_≡_, refl, sym, ap, subst, _∙_}
+use mathlib.Core.Path.{_≡_, sym, ap, subst, _∙_}
 use mathlib.Core.List.{List, [], _∷_, _++_, reverse}
-use mathlib.Core.Bool.{Bool, true, false, not, cond, _&&_, _||_}
+use mathlib.Core.Bool.{Bool, true, false}
 use mathlib.Core.Logic.{_↔_, ⊎-elim}
 use Prim.Native.Nat.{ℕ, zero, suc, _+_, _<_, _≤_}
 use native.Mathlib.Omega.{arith}
-use lib.Dec.{T, eqb}
+use lib.Dec.{T}
 use lib.ListN.{length, getD, take, drop}
 use Rattle.std.specs.shelf.Maps.{nth}
-use Rattle.std.specs.declared.option.Option.the-variants.{None, Some}
-use Rattle.std.proofs.shelf.Lists.{reverse-append, take-more, take-take, take-append-drop, length-take}
-use Rattle.std.proofs.shelf.Maps.{nth-getD, nth-past}
-use Rattle.std.proofs.shelf.Tests.{cases-lt, cases-bool, and-parts, and-from, or-cases, or-parts, eqb-true, both-ways, not-false, not-from-true, cond-true, cond-false}
+use Rattle.std.specs.declared.option.Option.the-variants.{Some}
+use Rattle.std.proofs.shelf.Lists.{reverse-append, take-more, take-take, take-append-drop}
+use Rattle.std.proofs.shelf.Maps.{nth-getD}
+use Rattle.std.proofs.shelf.Tests.{cases-lt, cases-bool, and-parts, and-from, both-ways, not-false, cond-true, cond-false}
 use Rattle.model.specs.Orders.{Preorder}
 use Rattle.model.specs.Machines.{Bounded}
 use Rattle.model.proofs.Tests.{holds-true, true-holds}
 use Rattle.until.specs.Formulas.{Holds}
 use Rattle.until.proofs.Walks.{walk-map}
 use Rattle.strikes.specs.declared.strike.Strike.{Strike}
-use Rattle.strikes.specs.Strikes.{names, struck, Lawful}
+use Rattle.strikes.specs.Strikes.{struck, Lawful}
 use Rattle.strikes.specs.Told.{formulaOf}
 use Rattle.strikes.specs.Statements.{Entails, Same}
 use Rattle.strikes.proofs.Entailment.{standing-is-entailment}
@@ -29,7 +29,6 @@ use Rattle.sheet.specs.Memory.{Memory, stands, history}
 use Rattle.sheet.specs.Verdicts.{Setting, size, least}
 use Rattle.sheet.specs.Genuine.{Genuine}
 use Rattle.sheet.specs.Promises.{Represents, Shown, Largest}
-use Rattle.sheet.specs.Pages.{firstNaming}
 use Rattle.sheet.specs.Calls.{areAlike, classOf}
 use Rattle.sheet.proofs.Grounds.{least-has, least-before}
 

@@ -1,7 +1,7 @@
 -- The law over runs: what the replies to any list of requests promise. Assumes nothing.
 use mathlib.Core.Path.{_≡_}
 use mathlib.Core.List.{List}
-use mathlib.Core.Bool.{Bool, true, false}
+use mathlib.Core.Bool.{Bool, false}
 use mathlib.Core.Logic.{_↔_}
 use Prim.Native.Nat.{ℕ, _<_}
 use lib.Dec.{T}
@@ -17,7 +17,7 @@ use Rattle.sheet.specs.declared.verdict.Verdict.the-variants.{StaysStruck, Sta
 use Rattle.sheet.specs.declared.request.Request.{Request}
 use Rattle.sheet.specs.declared.request.Request.the-variants.{Try, Sweep, Settle, Class, Below, Reason, Answer}
 use Rattle.sheet.specs.declared.request.Reply.{Reply}
-use Rattle.sheet.specs.declared.request.Reply.the-variants.{Refused, Tried, Swept, Settled, ClassIs, IsBelow, ReasonIs, Walked}
+use Rattle.sheet.specs.declared.request.Reply.the-variants.{Tried, Swept, Settled, ClassIs, IsBelow, ReasonIs, Walked}
 use Rattle.sheet.specs.Verdicts.{Setting, size}
 use Rattle.sheet.specs.Promises.{Shown}
 use Rattle.sheet.specs.Pages.{Page, held}
