@@ -3,16 +3,22 @@ use mathlib.Core.Path.{_≡_, refl, sym, ap, subst, _∙_}
 use mathlib.Core.List.{List}
 use mathlib.Core.Logic.{_↔_, ⊎-elim}
 use mathlib.Core.Bool.{Bool, true, false, not}
-use Prim.Native.Nat.{ℕ, _<_}
+use Prim.Native.Nat.{ℕ, _<_, _≤_}
 use native.Mathlib.Omega.{arith}
-use lib.Dec.{T}
+use lib.Dec.{T, ltb}
+use lib.ListN.{length, take, drop}
 use Rattle.std.specs.declared.option.Option.the-variants.{None, Some}
 use Rattle.std.specs.declared.result.Result.{Result}
 use Rattle.std.specs.declared.result.Result.the-variants.{Ok, Err}
-use Rattle.std.proofs.shelf.Tests.{cases-bool}
+use Rattle.std.proofs.shelf.Lists.{take-append-le, take-all}
+use Rattle.std.proofs.shelf.Tests.{cases-bool, le-ltb}
 use Rattle.model.specs.declared.refusal.Refusal.{Refusal}
 use Rattle.model.specs.Orders.{Preorder}
 use Rattle.model.specs.Machines.{Bounded}
+use Rattle.until.specs.Rows.{rowOf}
+use Rattle.until.specs.Searches.{Marked, Written}
+use Rattle.until.specs.Walks.{visited}
+use Rattle.until.proofs.Walks.{walk-map, map-steps, map-visited}
 use Rattle.strikes.specs.declared.strike.Strike.{Strike}
 use Rattle.strikes.specs.Strikes.{struck}
 use Rattle.strikes.specs.Statements.{Entails}
@@ -24,11 +30,12 @@ use Rattle.sheet.specs.declared.request.Reply.the-variants.{Tried, Settled, Cl
 use Rattle.sheet.specs.Memory.{stands, history}
 use Rattle.sheet.specs.Verdicts.{Setting, size}
 use Rattle.sheet.specs.Promises.{Represents, Shown}
-use Rattle.sheet.specs.Pages.{Page, held, Came, classCause, belowCause}
-use Rattle.sheet.specs.Calls.{Tries, Settles, Classes, Belows, Reasons}
-use Rattle.sheet.specs.Replies.{reply}
+use Rattle.sheet.specs.Pages.{Page, held, Came, classCause, belowCause, answerCause}
+use Rattle.sheet.specs.Calls.{Tries, Settles, Classes, Belows, Reasons, Answers}
+use Rattle.sheet.specs.Replies.{reply, Replies}
 use Rattle.sheet.specs.Law.{SaysStruck, Answering}
 use Rattle.sheet.proofs.Came.{sum-up, pairs-fit, inside, alike}
+use Rattle.sheet.proofs.Judging.{row-stands}
 use Rattle.sheet.proofs.Growing.{struck-tried}
 use Rattle.sheet.proofs.Moves.{Moved, low-else, try-low}
 use Rattle.sheet.proofs.Promises.{no-byte-struck, strike-shown, stands-entails, class-represents}
@@ -54,7 +61,7 @@ module _ {L : Type 0} (on : Setting L) where
   past-kept p after m (Answer s t u) a h = h
 
 module _ {L : Type 0} (on : Setting L) (bounded : Bounded (on .machine)) (laws : Preorder (on .atMost)) (p : Page) (came : Came on p) where
-  class-low : (s : ℕ) → classCause (size on) (p .sheet) (p .pairs) s ≡ None → (s < size on) × (p .sheet .settled ≡ true)
+  pub class-low : (s : ℕ) → classCause (size on) (p .sheet) (p .pairs) s ≡ None → (s < size on) × (p .sheet .settled ≡ true)
   class-low s e =
       let low : s < size on = low-else on bounded p came s (λ out.
       let seven : classCause (size on) (p .sheet) (p .pairs) s ≡ Some 7 = rw (pairs-fit on p came, out) refl in
@@ -138,3 +145,74 @@ module _ {L : Type 0} (on : Setting L) (bounded : Bounded (on .machine)) (laws :
       (λ no-answer. absurd (no-answer .2))
       (λ good. ap (λ x. x .sheet .settled) (good .2 .2))
       (sum-up _ (Ok d) checked)
+
+  answer-low : (room s t u : ℕ) → answerCause (on .machine) (p .sheet) (p .pairs) room s t u ≡ None → size on ≤ room → (s < size on) × (t < size on) × (u < size on) × (p .sheet .settled ≡ true)
+  answer-low room s t u e fits =
+      let roomy : ltb room (p .sheet .count) ≡ false = le-ltb _ _ (omega (arith, came .counted)) in
+      let first : s < size on = low-else on bounded p came s (λ out.
+      let seven : answerCause (on .machine) (p .sheet) (p .pairs) room s t u ≡ Some 7 = rw (pairs-fit on p came, roomy, out) refl in
+      let z : _≡_ {A = ℕ} 0 1 = cc in omega arith) in
+      let second : t < size on = low-else on bounded p came t (λ out.
+      let seven : answerCause (on .machine) (p .sheet) (p .pairs) room s t u ≡ Some 7 = rw (pairs-fit on p came, roomy, inside on p came s first, out) refl in
+      let z : _≡_ {A = ℕ} 0 1 = cc in omega arith) in
+      let third : u < size on = low-else on bounded p came u (λ out.
+      let seven : answerCause (on .machine) (p .sheet) (p .pairs) room s t u ≡ Some 7 = rw (pairs-fit on p came, roomy, inside on p came s first, inside on p came t second, out) refl in
+      let z : _≡_ {A = ℕ} 0 1 = cc in omega arith) in (
+        first,
+        second,
+        third,
+        ⊎-elim (λ yes. yes) (λ unsettled.
+            let not-yet : not (p .sheet .settled) ≡ true = ap not unsettled in
+            let nine : answerCause (on .machine) (p .sheet) (p .pairs) room s t u ≡ Some 9 = rw (pairs-fit on p came, roomy, inside on p came s first, inside on p came t second, inside on p came u third, alike on p came, not-yet) refl in
+            let z : _≡_ {A = ℕ} 0 1 = cc in absurd (omega arith)) (cases-bool (p .sheet .settled)),
+      )
+
+  -- a row of bytes says what entails on a settled page
+  module _ (settled : p .sheet .settled ≡ true) (s : ℕ) (hs : s < size on) (v : ℕ) (hv : v < size on) where
+    row-entails : Marked (rowOf (size on) (p .pairs) s) v → Entails (on .atMost) (on .machine) s v
+    row-entails x = stands-entails on bounded laws (p .sheet .settled) (held p) (came .genuine) settled s v hs hv .0 (subst T (row-stands (size on) (p .pairs) s v hv) x)
+
+    entails-row : Entails (on .atMost) (on .machine) s v → Marked (rowOf (size on) (p .pairs) s) v
+    entails-row x = subst T (sym (row-stands (size on) (p .pairs) s v hv)) (stands-entails on bounded laws (p .sheet .settled) (held p) (came .genuine) settled s v hs hv .1 x)
+
+  written-answers : p .sheet .settled ≡ true → (s t u k : ℕ) (before after : List ℕ) → s < size on → u < size on →
+      Written (on .machine) (rowOf (size on) (p .pairs) s) (rowOf (size on) (p .pairs) u) t before after k → Answering on s t u k after
+  written-answers settled s t u k before after hs hu w =
+      let there = walk-map (on .machine) (row-entails settled s hs) (row-entails settled u hu) (w .from-state) (w .walk) in
+      let same-visits = map-visited (on .machine) (row-entails settled s hs) (row-entails settled u hu) (w .from-state) (w .walk) in
+      record {
+        walk = there;
+        shortest = λ v.
+            let back = walk-map (on .machine) (entails-row settled s hs) (entails-row settled u hu) (w .from-state) v in
+            omega (
+              arith,
+              w .shortest back,
+              map-steps (on .machine) (row-entails settled s hs) (row-entails settled u hu) (w .from-state) (w .walk),
+              map-steps (on .machine) (entails-row settled s hs) (entails-row settled u hu) (w .from-state) v,
+            );
+        counted = w .counted ∙ ap length (sym same-visits);
+        written = ap (take k) (w .memory) ∙ take-append-le k (visited (w .walk)) (drop k before) (omega (arith, w .counted)) ∙ take-all k (visited (w .walk)) (omega (arith, w .counted)) ∙ sym same-visits;
+      }
+
+  answer-past : (s t u : ℕ) (r : Result ℕ Refusal) (walk memory : List ℕ) → size on ≤ length walk → Answers (on .machine) (p .sheet) (p .pairs) s t u walk r memory →
+      (k : ℕ) (shown : List ℕ) → reply (λ k. Walked k memory) r ≡ Walked k shown → Answering on s t u k shown
+  answer-past s t u (Err e) walk memory fits checked k shown is = let z : _≡_ {A = ℕ} 0 1 = cc in absurd (omega arith)
+  answer-past s t u (Ok d) walk memory fits checked k shown is =
+      ⊎-elim
+      (λ no-answer. absurd (no-answer .2))
+      (λ good.
+      let low = answer-low (length walk) s t u (good .3) fits in
+      let d-is : d ≡ k = cc in
+      let a-is : d ≡ good .0 = cc in
+      let m-is : memory ≡ shown = cc in
+      subst (Answering on s t u k) m-is (subst (λ x. Answering on s t u x memory) (sym a-is ∙ d-is) (written-answers (low .3) s t u (good .0) walk memory (low .0) (low .2) (good .2))))
+      (sum-up _ (Ok d) checked)
+
+  pub past-fresh : (q : Request) (a : Reply) (after : Page) → Replies on p q a after → Past on after q a
+  past-fresh (Try s t) a after x = λ v is. try-past s t (x .0) after (x .2) v (sym (x .1) ∙ is)
+  past-fresh (Sweep s) a after x = tt
+  past-fresh Settle a after x = λ k l is. settle-past (x .0) after (x .2) k l (sym (x .1) ∙ is)
+  past-fresh (Class s) a after x = λ c is. class-past s (x .0) (x .2) c (sym (x .1) ∙ is)
+  past-fresh (Below s t) a after x = subst (λ y. Past on y (Below s t) a) (sym (x .3)) (λ b is. below-past s t (x .0) (x .2) b (sym (x .1) ∙ is))
+  past-fresh (Reason s t) a after x = subst (λ y. Past on y (Reason s t) a) (sym (x .3)) (λ k is. reason-past s t (x .0) (x .2) k (sym (x .1) ∙ is))
+  past-fresh (Answer s t u) a after x = λ k shown is. answer-past s t u (x .0) (x .1) (x .2) (x .4) (x .5) k shown (sym (x .3) ∙ is)

@@ -1,9 +1,10 @@
 -- Walks taken apart, put together and mapped. Assumes nothing.
 use mathlib.Core.Path.{_≡_, refl, sym, ap, subst}
+use mathlib.Core.List.{_∷_}
 use mathlib.Core.Logic.{_⊎_, inl, inr, ⊎-elim}
 use Prim.Native.Nat.{ℕ, suc, _<_}
 use Rattle.model.specs.Machines.{Meaning, states, Step}
-use Rattle.until.specs.Walks.{Walk, stop, go, steps}
+use Rattle.until.specs.Walks.{Walk, stop, go, steps, visited}
 use Rattle.until.specs.Explored.{To}
 
 module _ {S : ℕ → ℕ → Type 0} {ok : ℕ → Type 0} where
@@ -41,6 +42,17 @@ module _ {L : Type 0} (m : Meaning L) where
   pub walk-map : {P Q P′ Q′ : ℕ → Type 0} (f : (u : ℕ) → u < states m → P u → P′ u) (g : (u : ℕ) → u < states m → Q u → Q′ u) {t : ℕ} → t < states m → Walk (Step m) P Q t → Walk (Step m) P′ Q′ t
   walk-map f g h (stop {t = t} q) = stop (g t h q)
   walk-map f g h (go {t = t} p e w) = go (f t h p) e (walk-map f g (e .to-state) w)
+
+  -- it has the same steps and visits the same states
+  pub map-steps : {P Q P′ Q′ : ℕ → Type 0} (f : (u : ℕ) → u < states m → P u → P′ u) (g : (u : ℕ) → u < states m → Q u → Q′ u) {t : ℕ} (h : t < states m) (w : Walk (Step m) P Q t) → steps (walk-map f g h w) ≡ steps w
+  unfolding walk-map
+  map-steps f g h (stop q) = refl
+  map-steps f g h (go p e w) = ap suc (map-steps f g (e .to-state) w)
+
+  pub map-visited : {P Q P′ Q′ : ℕ → Type 0} (f : (u : ℕ) → u < states m → P u → P′ u) (g : (u : ℕ) → u < states m → Q u → Q′ u) {t : ℕ} (h : t < states m) (w : Walk (Step m) P Q t) → visited (walk-map f g h w) ≡ visited w
+  unfolding walk-map
+  map-visited f g h (stop q) = refl
+  map-visited f g h (go {t = t} p e w) = ap (λ xs. t ∷ xs) (map-visited f g (e .to-state) w)
 
   -- a walk to where another begins is one walk
   pub walk-join : {P Q : ℕ → Type 0} {t : ℕ} → Walk (Step m) P (λ u. Walk (Step m) P Q u) t → Walk (Step m) P Q t
