@@ -12,3 +12,5 @@ pub mod Came
 pub mod Moves
 pub mod Later
 pub mod Past
+pub mod Given
+pub mod Resting
