@@ -2,10 +2,10 @@
 use mathlib.Core.Path.{_≡_, refl, sym, ap, subst, _∙_}
 use mathlib.Core.List.{List, [], _∷_, _++_, reverse}
 use mathlib.Core.Logic.{_⊎_, inl, inr, ⊎-elim}
-use mathlib.Core.Bool.{Bool, true, false, not, cond, _&&_, _||_}
-use Prim.Native.Nat.{ℕ, _+_, _<_, _≤_}
+use mathlib.Core.Bool.{Bool, true, false, not, _||_}
+use Prim.Native.Nat.{ℕ, _+_, _<_}
 use native.Mathlib.Omega.{arith}
-use lib.Dec.{T, eqb, ltb}
+use lib.Dec.{eqb, ltb}
 use lib.ListN.{length, take}
 use Rattle.std.specs.Options.{isSome}
 use Rattle.std.specs.declared.option.Option.{Option}
@@ -13,29 +13,26 @@ use Rattle.std.specs.declared.option.Option.the-variants.{None, Some}
 use Rattle.std.specs.declared.result.Result.{Result}
 use Rattle.std.specs.declared.result.Result.the-variants.{Ok, Err}
 use Rattle.std.proofs.shelf.Lists.{reverse-append}
-use Rattle.std.proofs.shelf.Tests.{cases-bool, and-parts, or-cases, or-parts, eqb-true, both-ways, cond-true, cond-false, le-ltb, not-from-true}
+use Rattle.std.proofs.shelf.Tests.{cases-bool, and-parts, eqb-true, both-ways, cond-true, cond-false, le-ltb}
 use Rattle.model.specs.declared.refusal.Refusal.{Refusal}
 use Rattle.model.specs.Orders.{Preorder}
-use Rattle.model.specs.Machines.{Bounded, Step, states}
+use Rattle.model.specs.Machines.{Bounded, Step}
 use Rattle.model.specs.Refusals.{Checked}
-use Rattle.model.proofs.Tests.{holds-true, true-holds}
+use Rattle.model.proofs.Tests.{holds-true}
 use Rattle.until.proofs.Decided.{walks-decides}
 use Rattle.strikes.specs.declared.strike.Strike.{Strike}
 use Rattle.strikes.specs.Strikes.{names, struck, Lawful}
 use Rattle.strikes.specs.Statements.{Entails}
 use Rattle.sheet.specs.declared.verdict.Verdict.{Verdict}
-use Rattle.sheet.specs.declared.verdict.Verdict.the-variants.{StaysStruck, Stays, Struck}
 use Rattle.sheet.specs.declared.request.Request.{Request}
 use Rattle.sheet.specs.declared.request.Request.the-variants.{Try, Sweep, Settle, Class, Below, Reason, Answer}
 use Rattle.sheet.specs.declared.request.Reply.{Reply}
-use Rattle.sheet.specs.declared.request.Reply.the-variants.{Refused, Tried, Swept, Settled, ClassIs, IsBelow, ReasonIs, Walked}
+use Rattle.sheet.specs.declared.request.Reply.the-variants.{Tried, Swept, Settled, ClassIs, IsBelow, ReasonIs, Walked}
 use Rattle.sheet.specs.Memory.{stands, history}
-use Rattle.sheet.specs.Verdicts.{Setting, size, verdictOf, tried, applied}
+use Rattle.sheet.specs.Verdicts.{Setting, size}
 use Rattle.sheet.specs.Pages.{Page, held, Came, firstNaming, recordOf, tryCause, sweepCause, settleCause, classCause, belowCause, reasonCause, answerCause}
 use Rattle.sheet.specs.Replies.{reply, Replies}
 use Rattle.sheet.proofs.Came.{pairs-fit, records-fit, inside, alike}
-use Rattle.sheet.proofs.Growing.{rests-tried, rests-swept}
-use Rattle.sheet.proofs.Settling.{rests-settled}
 use Rattle.sheet.proofs.Promises.{stands-entails, stands-largest}
 
 module _ {L : Type 0} (on : Setting L) where

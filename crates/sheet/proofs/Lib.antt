@@ -14,3 +14,4 @@ pub mod Later
 pub mod Past
 pub mod Given
 pub mod Resting
+pub mod Running

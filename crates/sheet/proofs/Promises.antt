@@ -87,6 +87,7 @@ module _ {L : Type 0} (on : Setting L) (bounded : Bounded (on .machine)) (laws :
     -- the class number is the least state with the same formulas
     pub class-represents : (s : ℕ) → s < size on → Represents on s (classOf (size on) (mem .pairs) s)
     class-represents s hs = record {
+      state = omega (arith, most);
       alike =
           ⊎-elim
           (λ l. alike-same s c hs (omega (arith, most)) (least-has p s l))

@@ -18,6 +18,7 @@ use Rattle.sheet.specs.Verdicts.{Setting, size}
 module _ {L : Type 0} (on : Setting L) where
   -- c is the least state at which the same formulas hold as at s.
   pub record Represents (s c : ℕ) : Type 0 where
+    pub state : c < size on
     pub alike : Same (on .atMost) (on .machine) s c
     pub least : (u : ℕ) → u < size on → Same (on .atMost) (on .machine) s u → c ≤ u
 
