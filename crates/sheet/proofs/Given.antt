@@ -13,7 +13,7 @@ use Rattle.std.specs.declared.option.Option.the-variants.{None, Some}
 use Rattle.std.specs.declared.result.Result.{Result}
 use Rattle.std.specs.declared.result.Result.the-variants.{Ok, Err}
 use Rattle.std.proofs.shelf.Lists.{reverse-append}
-use Rattle.std.proofs.shelf.Tests.{cases-bool, and-parts, eqb-true, both-ways, cond-true, cond-false, le-ltb}
+use Rattle.std.proofs.shelf.Tests.{cases-bool, and-parts, eqb-true, both-ways, cond-true, cond-false, le-ltb, or-right}
 use Rattle.model.specs.declared.refusal.Refusal.{Refusal}
 use Rattle.model.specs.Orders.{Preorder}
 use Rattle.model.specs.Machines.{Bounded, Step}
@@ -55,12 +55,8 @@ struck-either [] ys s t h = inr h
 struck-either (x ∷ xs) ys s t h =
     ⊎-elim
     (λ e. inl (ap (λ b. b || struck xs s t) e))
-    (λ e. ⊎-elim (λ l. inl (or-later (names x s t) (struck xs s t) l)) inr (struck-either xs ys s t (sym (ap (λ b. b || struck (xs ++ ys) s t) e) ∙ h)))
+    (λ e. ⊎-elim (λ l. inl (or-right (names x s t) (struck xs s t) l)) inr (struck-either xs ys s t (sym (ap (λ b. b || struck (xs ++ ys) s t) e) ∙ h)))
     (cases-bool (names x s t))
-  where
-    or-later : (a b : Bool) → b ≡ true → (a || b) ≡ true
-    or-later true b e = refl
-    or-later false b e = e
 
 -- a struck pair has a record
 naming-there : (xs : List Strike) (s t : ℕ) → struck (reverse xs) s t ≡ true → isSome (firstNaming xs s t) ≡ true

@@ -11,7 +11,7 @@ ghost use Rattle.sheet.specs.Pages.{unlike};
 
 impl Sheet {
     /// Whether `len` places are fewer than there are pairs of states.
-    pub fn is_short(&self, len: usize) -> bool
+    pub(crate) fn is_short(&self, len: usize) -> bool
         ensures { λ r. ⌜ r ≡ ltb len (now (self .entry) .count * now (self .entry) .count) ⌝ }
     {
         match self.count.checked_mul(self.count) {
