@@ -1,4 +1,6 @@
 //! How the calls are used: a buyer's own order, and examples that run.
+#![tactic(auto)]
+
 #[cfg(test)]
 mod pages;
 #[cfg(test)]

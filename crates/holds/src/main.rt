@@ -1,4 +1,6 @@
 //! Prints at which states of a machine an until formula holds, one line a state.
+#![tactic(auto)]
+
 use anyhow::anyhow;
 use model::{Beside, FlagSet, Flags, Machine, Table};
 use std::alloc::Global;

@@ -1,4 +1,6 @@
 //! What the comparer compares: labels under an order, and machines whose states carry them.
+#![tactic(auto)]
+
 pub mod band;
 pub mod beside;
 pub mod flags;

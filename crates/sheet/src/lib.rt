@@ -1,4 +1,6 @@
 //! The sheet: pairs of states struck with a reason, until no more can be struck.
+#![tactic(auto)]
+
 pub mod calls;
 mod checks;
 mod judge;

@@ -1,4 +1,6 @@
 //! The text that the programs print.
+#![tactic(auto)]
+
 pub mod print;
 
 pub use print::{holds_line, holds_lines};

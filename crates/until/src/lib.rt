@@ -1,4 +1,6 @@
 //! Walks over the steps of a machine, and the until formulas that they decide.
+#![tactic(auto)]
+
 pub mod evaluation;
 pub mod formula;
 pub mod rows;
