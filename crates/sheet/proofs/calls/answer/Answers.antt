@@ -9,8 +9,8 @@ use Rattle.sheet.specs.Calls.{Answers}
 use Rattle.sheet.proofs.Keeping.{answer_kept}
 use Rattle.sheet.proofs.calls.answer.Goals as goal
 
-pub returns-in-err-check-settled : goal.returns-in-err-check-settled
-returns-in-err-check-settled g c =
+pub returns-in_err-check_settled : goal.returns-in_err-check_settled
+returns-in_err-check_settled g c =
     let m = g.M.Machine.meaning c.args.machine.now in
     let sheet = c.args.sheet.now in
     let pairs = c.args.pairs.now in
@@ -18,11 +18,11 @@ returns-in-err-check-settled g c =
     let t = c.args.t in
     let u = c.args.u in
     let walk = c.args.walk.now in
-    let out = c.from-residual.result in
+    let out = c.from_residual.result in
     let tests = settled_tests (states m) sheet pairs (s ∷ t ∷ u ∷ []) in
     let answer : Answers m sheet pairs s t u walk out walk =
     then_check ((ltb (length walk) sheet.count, 6) ∷ []) (tests ++ step_tests m pairs s t u) out (le-ltb _ _ c.if-walk-sheet.false, tt)
-    (stopped tests (step_tests m pairs s t u) c.check-settled.result c.in-err-check-settled.field-0.0 out c.check-settled.ensures c.in-err-check-settled.was c.from-residual.ensures.1 refl) in
+    (stopped tests (step_tests m pairs s t u) c.check_settled.result c.in_err-check_settled.field-0.0 out c.check_settled.ensures c.in_err-check_settled.was c.from_residual.ensures.1 refl) in
     record {
       answer = answer;
       promise = λ records room at_most laws came. answer_kept (setting at_most m) (g.M.Machine.bounded c.args.machine.now) (page sheet pairs records) came laws s t u walk out walk room answer;
@@ -37,13 +37,13 @@ returns g c =
     let t = c.args.t in
     let u = c.args.u in
     let walk = c.args.walk.now in
-    let after = c.write-walk.new.walk in
-    let out = c.write-walk.result in
+    let after = c.write_walk.new.walk in
+    let out = c.write_walk.result in
     let tests = settled_tests (states m) sheet pairs (s ∷ t ∷ u ∷ []) in
-    let clear = passed tests c.check-settled.result c.check-settled.ensures c.in-ok-check-settled.was in
+    let clear = passed tests c.check_settled.result c.check_settled.ensures c.in_ok-check_settled.was in
     let answer : Answers m sheet pairs s t u walk out after =
     then_check ((ltb (length walk) sheet.count, 6) ∷ []) (tests ++ step_tests m pairs s t u) out (le-ltb _ _ c.if-walk-sheet.false, tt)
-    (then_check tests (step_tests m pairs s t u) out clear c.write-walk.ensures) in
+    (then_check tests (step_tests m pairs s t u) out clear c.write_walk.ensures) in
     record {
       answer = answer;
       promise = λ records room at_most laws came. answer_kept (setting at_most m) (g.M.Machine.bounded c.args.machine.now) (page sheet pairs records) came laws s t u walk out after room answer;

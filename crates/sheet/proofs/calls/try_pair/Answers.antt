@@ -19,7 +19,7 @@ returns g c =
     let p = page sheet c.args.pairs.now (records c.args.strikes.now) in
     let left : ℕ → Page = λ k. page (sheet_of sheet.count (sheet.strikes + k) sheet.settled) c.attempt-verdict.new.pairs (records c.attempt-verdict.new.strikes) in
     let after = left c.strikes.result in
-    let clear = passed (try_tests (states m) p s t) c.check-page.result c.check-page.ensures c.in-ok-check-page.was in
+    let clear = passed (try_tests (states m) p s t) c.check_page.result c.check_page.ensures c.in_ok-check_page.was in
     let answer : Tries on p s t (Ok c.attempt-verdict.result) after =
     when_answered (clear_none (try_tests (states m) p s t) clear) (c.attempt-verdict.ensures.verdict, ap left c.strikes.ensures ∙ ap (holding p sheet.settled) c.attempt-verdict.ensures.after) in
     record {

@@ -27,7 +27,7 @@ returns-after-loop-v g c =
     let goal = c.row-goal.ensures ∙ ap (λ k. row_of k pairs c.steps.u) c.count-n.ensures in
     let reached = subst (λ r. Reached m r c.args.t c.reached-ends.result) row c.reached-ends.ensures in
     below_is (unanswered m pairs c.args.s c.args.t) (states m) c.steps.u (omega (arith, c.steps-test.true, c.count-n.ensures))
-    (step_unanswered m (g.M.Machine.bounded c.args.machine.now) pairs c.args.s c.args.t c.requires c.reached-ends.result reached c.steps.u (sym c.if-has-step.ensures)
+    (step_unanswered m (g.M.Machine.bounded c.args.machine.now) pairs c.args.s c.args.t c.requires c.reached-ends.result reached c.steps.u (sym c.if-has_step.ensures)
     (λ v l e marked. c.loop-v.invariant v (omega (arith, c.loop-v-test.false, c.count-n.ensures)) e (subst (λ r. Marked r v) (sym goal) marked)))
     c.steps.invariant
 

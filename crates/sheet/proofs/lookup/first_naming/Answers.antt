@@ -35,10 +35,10 @@ module _ (records : List Strike) (made s t k : ℕ) where
   left_gone : length records ≤ k → None ≡ first_naming (drop k (take made records)) s t
   left_gone l = sym (at_drop_all (λ xs. first_naming xs s t) (take made records) k (omega (arith, length-take made records)))
 
-pub returns-in-default : goal.returns-in-default
-returns-in-default g c =
+pub returns-in_default : goal.returns-in_default
+returns-in_default g c =
     let records = g.S.StrikeMemory.records c.args.strikes.now in
-    left_gone records c.args.made c.args.s c.args.t c.loop-k.k (gone records c.loop-k.k c.in-default.ensures) ∙ c.loop-k.invariant
+    left_gone records c.args.made c.args.s c.args.t c.loop-k.k (gone records c.loop-k.k c.in_default.ensures) ∙ c.loop-k.invariant
 
 pub returns-then-names : goal.returns-then-names
 returns-then-names g c =

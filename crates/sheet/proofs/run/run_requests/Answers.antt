@@ -19,7 +19,7 @@ use Rattle.sheet.proofs.run.run_requests.Goals as goal
 pub loop-k-init : goal.loop-k-init
 loop-k-init g c =
     let on = setting (g.O.Order.relation c.args.order.now) (g.M.Machine.meaning c.args.machine.now) in
-    let begun = page c.in-ok-sheet.sheet c.begin.new.pairs (g.S.StrikeMemory.records c.args.strikes.now) in
+    let begun = page c.in_ok-sheet.sheet c.begin.new.pairs (g.S.StrikeMemory.records c.args.strikes.now) in
     ((λ _. begun, in_turn_none on c.args.requests.now begun), refl, g.S.StrikeMemory.lasting.at_once c.args.strikes.now)
 
 pub loop-k-preserved : goal.loop-k-preserved
@@ -30,7 +30,7 @@ loop-k-preserved g c =
     let replies = c.loop-k.replies in
     let k = c.loop-k.k in
     let pages = c.loop-k.invariant.0.0 in
-    let begun = page c.in-ok-sheet.sheet c.begin.new.pairs (records c.args.strikes.now) in
+    let begun = page c.in_ok-sheet.sheet c.begin.new.pairs (records c.args.strikes.now) in
     let after = page c.make.new.sheet c.make.new.pairs (records c.make.new.strikes) in
     let a = c.of.result in
     let asked : k < length requests = c.loop-k-test.true in
@@ -56,13 +56,13 @@ returns g c =
     let pairs = c.args.pairs.now in
     let requests = c.args.requests.now in
     let replies = c.loop-k.replies in
-    let sheet = c.in-ok-sheet.sheet in
-    let begins : Begins (states m) pairs before (Ok sheet) c.begin.new.pairs = subst (λ r. Begins (states m) pairs before r c.begin.new.pairs) c.in-ok-sheet.was c.begin.ensures.answer in
+    let sheet = c.in_ok-sheet.sheet in
+    let begins : Begins (states m) pairs before (Ok sheet) c.begin.new.pairs = subst (λ r. Begins (states m) pairs before r c.begin.new.pairs) c.in_ok-sheet.was c.begin.ensures.answer in
     let tests = begin_tests (states m) pairs before in
     let began = answered_at (cause tests) sheet begins in
     let clear = clear_append tests ((ltb (length c.args.replies.now) (length requests), 6) ∷ []) (none_clear tests began.1) (le-ltb _ _ c.if-replies-requests.false, tt) in
     let begun = begun_page (states m) pairs before in
-    let came : Came on begun = subst (Came on) began.0 (IfOk-at_ok (λ x. CameUnderAll m (page x c.begin.new.pairs before)) c.in-ok-sheet.was c.begin.ensures.came (g.O.Order.relation order)) in
+    let came : Came on begun = subst (Came on) began.0 (IfOk-at_ok (λ x. CameUnderAll m (page x c.begin.new.pairs before)) c.in_ok-sheet.was c.begin.ensures.came (g.O.Order.relation order)) in
     let done : c.loop-k.k ≡ length requests = omega (arith, c.loop-k-test.false, c.loop-k.auto.k-end) in
     let pages = c.loop-k.invariant.0.0 in
     let last = page c.loop-k.sheet c.loop-k.pairs (records c.loop-k.strikes) in

@@ -6,8 +6,8 @@ use Rattle.sheet.proofs.Readiness.{ready_passed}
 use Rattle.sheet.proofs.Passing.{passed_more}
 use Rattle.sheet.proofs.striking.pass.Goals as goal
 
-pub sweep-row-done-requires : goal.sweep-row-done-requires
-sweep-row-done-requires g c =
+pub sweep_row-done-requires : goal.sweep_row-done-requires
+sweep_row-done-requires g c =
     let m = g.M.Machine.meaning c.args.machine.now in
     let on = setting (g.O.Order.relation c.args.order.now) m in
     let start = memory c.args.pairs.now (g.S.StrikeMemory.records c.args.strikes.now) c.args.made in
@@ -21,6 +21,6 @@ pub loop-s-preserved : goal.loop-s-preserved
 loop-s-preserved g c =
     let on = setting (g.O.Order.relation c.args.order.now) (g.M.Machine.meaning c.args.machine.now) in
     let start = memory c.args.pairs.now (g.S.StrikeMemory.records c.args.strikes.now) c.args.made in (
-      passed_more on start c.loop-s.s _ _ c.loop-s.invariant.0 c.sweep-row-done.ensures.after,
-      g.S.StrikeMemory.lasting.then c.args.strikes.now c.loop-s.strikes c.sweep-row-done.new.strikes c.loop-s.invariant.1 c.sweep-row-done.ensures.same,
+      passed_more on start c.loop-s.s _ _ c.loop-s.invariant.0 c.sweep_row-done.ensures.after,
+      g.S.StrikeMemory.lasting.then c.args.strikes.now c.loop-s.strikes c.sweep_row-done.new.strikes c.loop-s.invariant.1 c.sweep_row-done.ensures.same,
     )

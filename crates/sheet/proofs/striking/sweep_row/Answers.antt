@@ -14,8 +14,8 @@ attempt-requires g c = record {
 }
 
 -- strikes are no more than pairs
-pub overflow-add-done : goal.overflow-add-done
-overflow-add-done g c =
+pub overflow_add-done : goal.overflow_add-done
+overflow_add-done g c =
     let m = c.args.machine.now in
     let n = states (g.M.Machine.meaning m) in
     let on = setting (g.O.Order.relation c.args.order.now) (g.M.Machine.meaning m) in

@@ -14,10 +14,10 @@ returns g c =
     let t = c.args.t in
     let u = c.args.u in
     let walk = c.args.walk.now in
-    let after = c.shortest-walk.new.walk in
+    let after = c.shortest_walk.new.walk in
     let counted = c.count-n.ensures in
     let stood = sym (c.if-not-marked.ensures ∙ ap (λ k. stands k pairs s t) counted) in
-    subst (λ r. WritesWalk m pairs s t u walk r after) (sym c.ok-or.ensures.value)
-    (search_answers m (g.M.Machine.bounded c.args.machine.now) pairs s t u c.requires.second walk after stood (sym c.if-not-has-step.ensures)
-    c.row.result.now c.row-2.result.now c.shortest-walk.result c.in-ok-shortest-walk.field-0
-    (c.row.ensures ∙ ap (λ k. row_of k pairs s) counted) (c.row-2.ensures ∙ ap (λ k. row_of k pairs u) counted) c.shortest-walk.ensures c.requires.places c.in-ok-shortest-walk.was)
+    subst (λ r. WritesWalk m pairs s t u walk r after) (sym c.ok_or.ensures.value)
+    (search_answers m (g.M.Machine.bounded c.args.machine.now) pairs s t u c.requires.second walk after stood (sym c.if-not-has_step.ensures)
+    c.row.result.now c.row-2.result.now c.shortest_walk.result c.in_ok-shortest_walk.field-0
+    (c.row.ensures ∙ ap (λ k. row_of k pairs s) counted) (c.row-2.ensures ∙ ap (λ k. row_of k pairs u) counted) c.shortest_walk.ensures c.requires.places c.in_ok-shortest_walk.was)

@@ -7,13 +7,13 @@ use Rattle.until.proofs.evaluation.fill_row.Goals as goal
 pub loop-s-init : goal.loop-s-init
 loop-s-init g c = filling_none _ _ _ _ _
 
-pub slice-bounds-holds-at-end : goal.slice-bounds-holds-at-end
-slice-bounds-holds-at-end g c =
+pub slice_bounds-holds_at-end : goal.slice_bounds-holds_at-end
+slice_bounds-holds_at-end g c =
     let size = ap (λ v. c.args.k * v) c.count-n.ensures in
     omega (arith, size, c.requires, c.loop-s.invariant.long)
 
-pub holds-at-holds-requires : goal.holds-at-holds-requires
-holds-at-holds-requires g c = omega (arith, c.count-n.ensures, c.loop-s-test.true)
+pub holds_at-holds-requires : goal.holds_at-holds-requires
+holds_at-holds-requires g c = omega (arith, c.count-n.ensures, c.loop-s-test.true)
 
 pub bounds-rows-k : goal.bounds-rows-k
 bounds-rows-k g c =
@@ -31,13 +31,13 @@ loop-s-preserved g c =
     let size : k * c.count-n.result ≡ k * states m = ap (λ v. k * v) c.count-n.ensures in
     let low : s < states m = omega (arith, c.count-n.ensures, c.loop-s-test.true) in
     let seen : take (k * c.count-n.result - 0) c.loop-s.rows ≡ take (k * states m) before = ap (λ j. take j c.loop-s.rows) (omega (arith, size)) ∙ c.loop-s.invariant.front in
-    let decides : Decides c.holds-at-holds.result (HoldsBy at_most m (take (k * states m) before) line s) =
-    subst (λ xs. Decides c.holds-at-holds.result (HoldsBy at_most m xs line s)) seen c.holds-at-holds.ensures in
+    let decides : Decides c.holds_at-holds.result (HoldsBy at_most m (take (k * states m) before) line s) =
+    subst (λ xs. Decides c.holds_at-holds.result (HoldsBy at_most m xs line s)) seen c.holds_at-holds.ensures in
     filling_more at_most m line k before c.loop-s.invariant low (k * c.count-n.result + s) (omega (arith, size)) (omega (arith, size, low, c.requires, c.loop-s.invariant.long)) c.from.result
-    (says_test c.holds-at-holds.result c.from.result decides c.from.ensures)
+    (says_test c.holds_at-holds.result c.from.result decides c.from.ensures)
 
-pub shape-of-rows : goal.shape-of-rows
-shape-of-rows g c = c.loop-s.invariant.long
+pub shape_of-rows : goal.shape_of-rows
+shape_of-rows g c = c.loop-s.invariant.long
 
 pub returns : goal.returns
 returns g c = filling_all _ _ _ _ _ c.loop-s.invariant (omega (arith, c.count-n.ensures, c.loop-s-test.false))

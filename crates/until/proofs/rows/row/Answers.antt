@@ -25,5 +25,5 @@ returns c =
     let xs = c.args.rows.now in
     let fits : length xs < 2 ^ 64 = search rules in
     cut xs c.args.n (c.args.k * c.args.n) c.min-start.result c.min-end.result
-    (omega (arith, c.min-start.ensures, c.saturating-mul.ensures, fits))
-    (omega (arith, c.min-end.ensures, c.saturating-add.ensures, fits))
+    (omega (arith, c.min-start.ensures, c.saturating_mul.ensures, fits))
+    (omega (arith, c.min-end.ensures, c.saturating_add.ensures, fits))

@@ -4,7 +4,7 @@ use Rattle.model.proofs.Tests.{true_holds, false_fails}
 use Rattle.until.proofs.Breadth.{going_end}
 use Rattle.until.proofs.Turns.{at, outer_start, outer_skip, outer_at, inner_skip, inner_push, inner_end, inner_at, room_left}
 use Rattle.until.proofs.search.explore.Goals as goal
-use Rattle.until.proofs.search.explore.Goals.{then-dist-t-eq-UNREACHED+then-has-step, else-dist-t-eq-UNREACHED, else-dist-t-eq-UNREACHED-via-then-dist-t-eq-UNREACHED+else-has-step, else-dist-t-eq-UNREACHED-via-else-dist-t-eq-UNREACHED, then-marked+else-loop-t-test, else-marked}
+use Rattle.until.proofs.search.explore.Goals.{then-dist-t-eq-UNREACHED+then-has_step, else-dist-t-eq-UNREACHED, else-dist-t-eq-UNREACHED-via-then-dist-t-eq-UNREACHED+else-has_step, else-dist-t-eq-UNREACHED-via-else-dist-t-eq-UNREACHED, then-marked+else-loop-t-test, else-marked}
 
 pub loop-head-init : goal.loop-head-init
 loop-head-init g c = outer_start (g.M.Machine.bounded c.args.machine.now).few c.requires
@@ -21,16 +21,16 @@ loop-t-preserved g c =
     let inner = c.loop-t.invariant in
     let low : c.loop-t.t < states (g.M.Machine.meaning m) = omega arith in
     elim c.if-dist-t-eq-UNREACHED.branch [
-      | then-dist-t-eq-UNREACHED+then-has-step w ↦
+      | then-dist-t-eq-UNREACHED+then-has_step w ↦
           inner_at w.dist-is w.from-is w.queue-is w.tail-is
           (inner_push inner (g.M.Machine.bounded m).few low w.if-dist-t-eq-UNREACHED.true
           (true_holds _ (sym c.if-marked.ensures))
-          ((g.M.Machine.bounded m).inside _ _ (true_holds _ (sym w.if-has-step.ensures))))
+          ((g.M.Machine.bounded m).inside _ _ (true_holds _ (sym w.if-has_step.ensures))))
       | else-dist-t-eq-UNREACHED w ↦
           inner_at w.dist-is w.from-is w.queue-is w.tail-is
           (elim w.else-dist-t-eq-UNREACHED.branch [
-            | else-dist-t-eq-UNREACHED-via-then-dist-t-eq-UNREACHED+else-has-step w' ↦
-                inner_skip inner (λ st. absurd (false_fails _ (sym w'.if-has-step.ensures) st.there)) low
+            | else-dist-t-eq-UNREACHED-via-then-dist-t-eq-UNREACHED+else-has_step w' ↦
+                inner_skip inner (λ st. absurd (false_fails _ (sym w'.if-has_step.ensures) st.there)) low
             | else-dist-t-eq-UNREACHED-via-else-dist-t-eq-UNREACHED w' ↦
                 inner_skip inner (λ st. omega (arith, inner.outer.most c.loop-t.t, w'.if-dist-t-eq-UNREACHED.false)) low
           ])

@@ -7,12 +7,12 @@ use Rattle.until.proofs.Trail.{Trail, trail_start, trail_back, trail_more, trail
 use Rattle.until.proofs.search.shortest_walk.Given as given
 use Rattle.until.proofs.search.shortest_walk.Goals as goal
 
-pub returns-in-default : goal.returns-in-default
-returns-in-default g c =
+pub returns-in_default : goal.returns-in_default
+returns-in_default g c =
     let m = g.M.Machine.meaning c.args.machine.now in
     let found = c.explore-found.ensures in
     when_answered (room_enough _ _ 6 None (omega (arith, c.if-walk-n.false, c.count-n.ensures)))
-    (no_trail m c.args.row.now c.args.goal.now _ found (λ v l. c.in-default.ensures v (omega (arith, c.count-n.ensures))), refl)
+    (no_trail m c.args.row.now c.args.goal.now _ found (λ v l. c.in_default.ensures v (omega (arith, c.count-n.ensures))), refl)
 
 pub loop-left-init : goal.loop-left-init
 loop-left-init g c =
@@ -27,8 +27,8 @@ pub loop-left-preserved : goal.loop-left-preserved
 loop-left-preserved g c =
     trail_more (g.M.Machine.meaning c.args.machine.now) c.args.row.now c.args.goal.now _ c.explore-found.ensures c.loop-left.invariant c.loop-left-test.true
 
-pub overflow-cast-walk-in-loop-left : goal.overflow-cast-walk-in-loop-left
-overflow-cast-walk-in-loop-left g c =
+pub overflow_cast-walk-in-loop-left : goal.overflow_cast-walk-in-loop-left
+overflow_cast-walk-in-loop-left g c =
     let m = c.args.machine.now in
     let back = trail_back (g.M.Machine.meaning m) c.args.row.now c.args.goal.now _ c.explore-found.ensures c.loop-left.invariant c.loop-left-test.true in
     omega (arith, back.0, (g.M.Machine.bounded m).few)

@@ -19,10 +19,10 @@ returns g c =
     let sheet = c.args.self.now in
     let n = c.count-n.result in
     let k = sheet.count in
-    let up : ℕ = c.count-standing.result in
+    let up : ℕ = c.count_standing.result in
     let same : n ≡ k = sym c.if-self-n.false in
-    let counted : up ≡ standing (k * k) c.args.pairs.now = c.count-standing.ensures.counted ∙ ap (λ v. standing (v * v) c.args.pairs.now) same in
-    ap not (sum_by_rest sheet.strikes (n * n) up c.count-standing.ensures.most
+    let counted : up ≡ standing (k * k) c.args.pairs.now = c.count_standing.ensures.counted ∙ ap (λ v. standing (v * v) c.args.pairs.now) same in
+    ap not (sum_by_rest sheet.strikes (n * n) up c.count_standing.ensures.most
     ∙ ap (λ v. eqb (v + sheet.strikes) (n * n)) counted
     ∙ ap (λ v. eqb (standing (k * k) c.args.pairs.now + sheet.strikes) (v * v)) same)
     ∙ last (eqb k 0) _ _ (ne_eqb k 0 c.if-self-eq0.false) (eq-eqb k _ (c.if-self-n.false ∙ c.count-n.ensures))
