@@ -19,7 +19,7 @@ least p (suc n) = cond (p zero) zero (suc (least (λ i. p (suc i)) n))
 abbrev pub if_below : ℕ → ℕ → Option ℕ
 if_below n u = cond (nat_lt u n) (Some u) None
 
-abbrev pub strike : ℕ → ℕ → Ground → Strike
+abbrev pub strike : (first second : ℕ) (ground : Ground) → Strike
 strike s t g = record { first = s; second = t; ground = g }
 
 -- The pair is struck where there is a ground, and stays where there is none.
