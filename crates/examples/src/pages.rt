@@ -1,7 +1,7 @@
 //! Sheets with their memory, for the examples of the sheet.
 use model::{FlagSet, Flags, Machine, Refusal, Table};
-use sheet::{Sheet, begin, settle};
-use strikes::{Ground, Strike, StrikeSlice};
+use sheet::{Sheet, StrikeSlice, begin, settle};
+use strikes::{Ground, Strike};
 
 pub(crate) const ONE: FlagSet = FlagSet { bits: 1 };
 

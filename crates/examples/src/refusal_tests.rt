@@ -1,8 +1,8 @@
 //! Examples of what the sheet refuses, each proved and then run.
 use crate::pages::{BLANK, ONE, Page, SEVENS, number, same, settled_page, two_beside_one};
 use model::{Flags, Machine, Table};
-use sheet::{answer, begin, below, class, reason, settle, sweep, try_pair};
-use strikes::{Strike, StrikeSlice};
+use sheet::{StrikeSlice, answer, begin, below, class, reason, settle, sweep, try_pair};
+use strikes::Strike;
 
 fn begin_refusal<M: Machine>(machine: &M, pairs: &mut [u8], records: &mut [Strike]) -> u8 {
     number(begin(machine, pairs, &StrikeSlice { items: records }))

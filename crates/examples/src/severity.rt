@@ -1,6 +1,6 @@
 //! An order of a buyer's own: alarms by how grave they are.
 ghost use Rattle.std.specs.Prelude.{◌≡◌};
-ghost use Rattle.examples.specs.Severity.{grade_of, no_graver, no_graver_lawful};
+ghost use Rattle.examples.specs.Severity.{grade_of, no_graver, no_no_graver_lawful};
 
 use model::Order;
 
@@ -33,7 +33,7 @@ impl Order for Severity {
 
     ghost relation = { λ _. no_graver };
 
-    ghost lawful = { λ _. no_graver_lawful };
+    ghost lawful = { λ _. no_no_graver_lawful };
 
     fn at_most(&self, a: &Alarm, b: &Alarm) -> bool {
         a.grade() <= b.grade()

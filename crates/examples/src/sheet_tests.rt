@@ -3,9 +3,9 @@ use crate::pages::{
     ONE, Page, SEVENS, TWO, number, same, settled, settled_page, strike, two, two_beside_one,
 };
 use model::{Beside, FlagSet, Flags, Machine, Refusal, STATE_BOUND, Table, Trace};
-use sheet::{Reply, Request, Verdict, answer, below, class, run_requests};
+use sheet::{Reply, Request, StrikeSlice, Verdict, answer, below, class, run_requests};
 use std::test::Fail;
-use strikes::{Ground, StrikeSlice};
+use strikes::Ground;
 
 #[test]
 fn settles(rt: HostRuntime) -> Result<(), Fail> {

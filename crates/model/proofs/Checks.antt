@@ -2,10 +2,10 @@
 use Rattle.std.proofs.Common.{◌≡◌, ℕ, ◌<◌, ◌≤◌, Bool, true, false, cond, ltb, List, [], ◌∷◌, ◌++◌, IsErrAnd, Some, None, Ok, Err, Option, Result, sym, refl, ap, ◌∙◌, subst, ⊎_elim, arith}
 use Rattle.std.proofs.lemmas.Bool.{cases_Bool, cond-true, cond-false, lt-ltb, le-ltb}
 use Rattle.model.specs.declared.refusal.Refusal.{Refusal}
-use Rattle.model.specs.Refusals.{Refused, GoodAnswer, Checked, cause, Passes}
+use Rattle.model.specs.Refusals.{Refused, Answered, Checked, cause, Passes}
 
 module _ {A : Type 0} {cause : Option ℕ} {Unchanged : Type 0} {Good : A → Type 0} {r : Result A Refusal} where
-  pub when_answered : cause ≡ None → GoodAnswer Good r → Checked cause Unchanged Good r
+  pub when_answered : cause ≡ None → Answered Good r → Checked cause Unchanged Good r
   when_answered e good = record { refused = λ k f. let z : ◌≡◌ {A = ℕ} 0 1 = cc in absurd (omega arith); answered = λ _. good }
 
   pub when_refused : (k : ℕ) → cause ≡ Some k → Refused k r → Unchanged → Checked cause Unchanged Good r
@@ -34,6 +34,17 @@ module _ {A : Type 0} {Unchanged : Type 0} {Good : A → Type 0} where
 -- A list of tests, from the first on.
 pub finds : (b : Bool) (k : ℕ) (rest : List (Bool × ℕ)) → b ≡ true → cause ((b, k) ∷ rest) ≡ Some k
 finds b k rest e = cond-true b (Some k) (cause rest) e
+
+pub passes : (b : Bool) (k : ℕ) (rest : List (Bool × ℕ)) (o : Option ℕ) → b ≡ false → cause rest ≡ o → cause ((b, k) ∷ rest) ≡ o
+passes b k rest o e f = cond-false b (Some k) (cause rest) e ∙ f
+
+-- The second of two tests: where it passes it may be left out, and where it finds their one cause the first does not matter.
+pub passes_behind : (a b : Bool) (j k : ℕ) (rest : List (Bool × ℕ)) → b ≡ false → cause ((a, j) ∷ (b, k) ∷ rest) ≡ cause ((a, j) ∷ rest)
+passes_behind a b j k rest e = ap (cond a (Some j)) (passes b k rest (cause rest) e refl)
+
+pub finds_behind : (a b : Bool) (k : ℕ) (rest : List (Bool × ℕ)) → b ≡ true → cause ((a, k) ∷ (b, k) ∷ rest) ≡ Some k
+finds_behind true b k rest e = refl
+finds_behind false b k rest e = finds b k rest e
 
 -- No test finds a cause.
 abbrev pub Clear : List (Bool × ℕ) → Type 0

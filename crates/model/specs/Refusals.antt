@@ -19,14 +19,14 @@ Refused k (Ok a) = ⊥
 Refused k (Err e) = number_of e ≡ k
 
 -- The answer is good, and Good is true of it.
-abbrev pub GoodAnswer : {A : Type 0} → (A → Type 0) → Result A Refusal → Type 0
-GoodAnswer Good (Ok a) = Good a
-GoodAnswer Good (Err e) = ⊥
+abbrev pub Answered : {A : Type 0} → (A → Type 0) → Result A Refusal → Type 0
+Answered Good (Ok a) = Good a
+Answered Good (Err e) = ⊥
 
 -- Where the checks find a cause, the call is refused by its number and leaves all as it was; else it answers.
 pub record Checked {A : Type 0} (cause : Option ℕ) (Unchanged : Type 0) (Good : A → Type 0) (r : Result A Refusal) : Type 0 where
   pub refused : (k : ℕ) → cause ≡ Some k → Refused k r × Unchanged
-  pub answered : cause ≡ None → GoodAnswer Good r
+  pub answered : cause ≡ None → Answered Good r
 
 -- The number of the first test that finds a cause, if any does.
 abbrev pub cause : List (Bool × ℕ) → Option ℕ

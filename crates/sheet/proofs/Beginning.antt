@@ -1,5 +1,5 @@
 -- A page that was just begun came about by strikes: by none. Assumes nothing.
-use Rattle.std.proofs.Common.{◌≡◌, ℕ, zero, suc, ◌+◌, ◌*◌, ◌<◌, ◌≤◌, true, false, cond, not, eqb, List, [], ◌∷◌, ◌++◌, length, take, drop, replicate, Ok, fold, sym, refl, ap, ◌∙◌, subst, ⊎_elim, arith, length-append, length-drop}
+use Rattle.std.proofs.Common.{◌≡◌, ℕ, zero, suc, ◌+◌, ◌*◌, ◌<◌, true, false, cond, not, eqb, List, ◌++◌, take, drop, replicate, Ok, fold, sym, refl, ap, ◌∙◌, subst, ⊎_elim, arith, length-append}
 use lib.Arith.{digits_lt}
 use lib.ListN.{length-replicate}
 use Rattle.std.proofs.lemmas.Bool.{both_ways, cases_lt, eq-eqb, ltb-false}
@@ -10,7 +10,7 @@ use Rattle.until.specs.Searches.{is_marked}
 use Rattle.sheet.specs.Memory.{standing}
 use Rattle.sheet.specs.Verdicts.{Setting, size}
 use Rattle.sheet.specs.declared.sheet.Sheet.{Sheet}
-use Rattle.sheet.specs.Pages.{Came, page, begun_page}
+use Rattle.sheet.specs.Pages.{Came, page, sheet_of, begun_page}
 use Rattle.sheet.specs.Causes.{begin_tests}
 use Rattle.sheet.specs.Calls.{Begins}
 
@@ -45,7 +45,11 @@ begun on pairs records clear =
       };
     }
 
+-- the page of a sheet that was just begun
+pub begun_is : (n : ℕ) (pairs after : List ℕ) (records : List Strike) (sheet : Sheet) → (sheet ≡ sheet_of n 0 false) × (after ≡ replicate (n * n) 1 ++ drop (n * n) pairs) → page sheet after records ≡ begun_page n pairs records
+begun_is n pairs after records sheet is = ap (λ x. page x after records) is.0 ∙ ap (λ ys. page (sheet_of n 0 false) ys records) is.1
+
 pub began : {L : Type 0} (on : Setting L) (pairs after : List ℕ) (records : List Strike) (sheet : Sheet) → Begins (size on) pairs records (Ok sheet) after → Came on (page sheet after records)
 began on pairs after records sheet begins =
     let good = answered_at (cause (begin_tests (size on) pairs records)) sheet begins in
-    subst (Came on) (sym good.0) (begun on pairs records (none_clear (begin_tests (size on) pairs records) good.1))
+    subst (Came on) (sym (begun_is (size on) pairs after records sheet good.0)) (begun on pairs records (none_clear (begin_tests (size on) pairs records) good.1))

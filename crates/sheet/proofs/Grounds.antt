@@ -1,5 +1,5 @@
 -- The ground that is computed is one, and where none is computed there is none. Assumes nothing.
-use Rattle.std.proofs.Common.{◌≡◌, ℕ, zero, suc, ◌<◌, Bool, true, false, cond, T, ltb, ◌⊎◌, List, Some, None, sym, refl, ap, ◌∙◌, subst, ⊎_elim, arith}
+use Rattle.std.proofs.Common.{◌≡◌, ℕ, zero, suc, ◌<◌, Bool, true, false, cond, T, ltb, List, Some, None, sym, refl, ap, ◌∙◌, subst, ⊎_elim, arith}
 use Rattle.std.proofs.lemmas.Bool.{cases_Bool, cases_lt, cond-true, cond-false, lt-ltb, le-ltb, and_parts, not-true, both_ways, and_from, not_from_false}
 use Rattle.std.proofs.lemmas.Bool.Decides.{not_from_Decides}
 use Rattle.model.specs.Machines.{Bounded, label_of}
@@ -10,7 +10,7 @@ use Rattle.strikes.specs.declared.strike.Ground.TheVariants.{ByLabel, ByStep}
 use Rattle.strikes.specs.Simulations.{under}
 use Rattle.strikes.specs.Strikes.{Grounded}
 use Rattle.sheet.specs.Memory.{stands}
-use Rattle.sheet.specs.Verdicts.{Setting, size, least, if_below, by_step, answered, unanswered, least_unanswered, ground_of}
+use Rattle.sheet.specs.Verdicts.{Setting, size, least, below, by_step, answered, unanswered, least_unanswered, ground_of}
 
 pub least_has : (p : ℕ → Bool) (n : ℕ) → least p n < n → p (least p n) ≡ true
 least_has p zero h = absurd (omega arith)
@@ -56,7 +56,7 @@ module _ {L : Type 0} (on : Setting L) (bounded : Bounded on.machine) (pairs : L
     agree = under on.at_most (label_of on.machine s) (label_of on.machine t)
 
     -- the ground where the labels agree
-    step_ground : (v : ℕ) → v ≡ least (unanswered on.machine pairs s t) (size on) → (g : Ground) → by_step (if_below (size on) v) ≡ Some g → Grounded on.at_most on.machine ByBytes s t g
+    step_ground : (v : ℕ) → v ≡ least (unanswered on.machine pairs s t) (size on) → (g : Ground) → by_step (below (size on) v) ≡ Some g → Grounded on.at_most on.machine ByBytes s t g
     step_ground v ev g e =
         ⊎_elim
         (λ l.

@@ -1,9 +1,9 @@
 -- Every call on a page that came about by strikes keeps its promise. Assumes nothing.
-use Rattle.std.proofs.Common.{◌≡◌, ℕ, ◌+◌, ◌<◌, ◌≤◌, Bool, true, false, not, T, ◌↔◌, List, [], ◌∷◌, ◌++◌, length, take, is_some, Some, Ok, Err, Result, sym, refl, ap, ◌∙◌, subst, arith}
+use Rattle.std.proofs.Common.{◌≡◌, ℕ, ◌+◌, ◌<◌, ◌≤◌, Bool, true, false, not, T, ◌↔◌, List, [], ◌∷◌, length, take, is_some, Some, Ok, Err, Result, sym, refl, ap, ◌∙◌, subst, arith}
 use Rattle.std.proofs.lemmas.Bool.{cond-false, le-ltb, not-false, not_from_true}
 use Rattle.model.specs.declared.refusal.Refusal.{Refusal}
 use Rattle.model.specs.Orders.{Preorder}
-use Rattle.model.specs.Machines.{Bounded, Step, states}
+use Rattle.model.specs.Machines.{Bounded}
 use Rattle.model.proofs.Checks.{Clear, refused_at, answered_at, none_clear, clear_none, clear_parts, clear_append}
 use Rattle.model.proofs.Tests.{holds_true}
 use Rattle.until.proofs.Decided.{walks_decides}
@@ -15,7 +15,7 @@ use Rattle.sheet.specs.declared.request.Request.TheVariants.{Try, Sweep, Settle,
 use Rattle.sheet.specs.declared.request.Reply.{Reply}
 use Rattle.sheet.specs.declared.request.Reply.TheVariants.{Refused, Tried, Swept, Settled, ClassIs, IsBelow, ReasonIs, Walked}
 use Rattle.sheet.specs.Memory.{Memory, stands, history}
-use Rattle.sheet.specs.Verdicts.{Setting, size, verdict_of, applied, tried, swept, settled}
+use Rattle.sheet.specs.Verdicts.{Setting, size, applied, tried, swept, settled}
 use Rattle.sheet.specs.Genuine.{Genuine, Grown}
 use Rattle.sheet.specs.Pages.{Page, held, holding, Came, record_of}
 use Rattle.sheet.specs.Causes.{sheet_tests, page_tests, settled_tests, try_tests, sweep_tests, settle_tests, class_tests, below_tests, record_tests, reason_tests, step_tests, answer_tests}
@@ -23,7 +23,7 @@ use Rattle.sheet.specs.Calls.{Tries, Sweeps, Settles, Classes, Belows, Reasons, 
 use Rattle.sheet.specs.Replies.{reply, Replies}
 use Rattle.sheet.specs.Tells.{SaysStruck, Represents, Answering}
 use Rattle.sheet.specs.Promises.{Onward, Says, Given, Rests, Kept}
-use Rattle.sheet.proofs.Came.{Inside, fits, settled_fits, came_clear, came_holding}
+use Rattle.sheet.proofs.Came.{Inside, page_fits, settled_fits, came_clear, came_holding}
 use Rattle.sheet.proofs.Growing.{grown_tried, grown_swept, genuine_tried, genuine_swept, rests_tried, rests_swept, struck_tried}
 use Rattle.sheet.proofs.Settling.{settles, rests_settled}
 use Rattle.sheet.proofs.Telling.{no_byte_struck, strike_shown, stands_entails, class_represents, stands_largest, written_answers}
@@ -75,7 +75,7 @@ module _ {L : Type 0} (on : Setting L) (bounded : Bounded on.machine) (p : Page)
       refused_kept (Try s t) e after no_answer.0 (λ hs ht. absurd (no_answer.1 (clear_none (try_tests (size on) p s t) (came_clear on p came (s ∷ t ∷ []) (hs, (ht, tt))))))
   try_kept s t (Ok v) after checked =
       let good = answered_at _ v checked in
-      let low = (fits (size on) p.sheet p.pairs (s ∷ t ∷ []) (none_clear (try_tests (size on) p s t) good.1).1).inside in
+      let low = (page_fits (size on) p (s ∷ t ∷ []) (none_clear (try_tests (size on) p s t) good.1)).inside in
       let z = p.sheet.settled in
       record {
         onward = onward_to z (tried on (held p) s t) (genuine_tried on bounded z (held p) genuine s t low.0 low.1.0) (grown_tried on (held p) s t)
@@ -100,7 +100,7 @@ module _ {L : Type 0} (on : Setting L) (bounded : Bounded on.machine) (p : Page)
       refused_kept (Sweep s) e after no_answer.0 (λ hs. absurd (no_answer.1 (clear_none (sweep_tests (size on) p s) (came_clear on p came (s ∷ []) (hs, tt)))))
   sweep_kept s (Ok k) after checked =
       let good = answered_at _ k checked in
-      let low = (fits (size on) p.sheet p.pairs (s ∷ []) (none_clear (sweep_tests (size on) p s) good.1).1).inside.0 in
+      let low = (page_fits (size on) p (s ∷ []) (none_clear (sweep_tests (size on) p s) good.1)).inside.0 in
       let z = p.sheet.settled in
       let still : z ≡ true → swept on (held p) s (size on) ≡ held p = λ settled. rests_swept on bounded z settled (held p) genuine s low (size on) (omega arith) in
       record {
@@ -113,8 +113,9 @@ module _ {L : Type 0} (on : Setting L) (bounded : Bounded on.machine) (p : Page)
 
   -- on a settled page the tests of a call that needs one pass, and tests that pass say that it is settled
   settled_clear : (numbers : List ℕ) → p.sheet.settled ≡ true → Inside (size on) numbers → Clear (settled_tests (size on) p.sheet p.pairs numbers)
-  settled_clear numbers is-settled inside =
-      clear_append (sheet_tests (size on) p.sheet p.pairs numbers) ((not p.sheet.settled, 9) ∷ []) (came_clear on p came numbers inside).1 (not_from_true _ is-settled, tt)
+  settled_clear numbers is_settled inside =
+      let clear = came_clear on p came numbers inside in
+      clear_append (sheet_tests (size on) p.sheet p.pairs numbers) ((not p.sheet.settled, 9) ∷ []) (clear.0, clear.1.1) (not_from_true _ is_settled, tt)
 
   settled_low : (numbers : List ℕ) → Clear (settled_tests (size on) p.sheet p.pairs numbers) → Inside (size on) numbers × (p.sheet.settled ≡ true)
   settled_low numbers clear =
@@ -200,14 +201,13 @@ module _ {L : Type 0} (on : Setting L) (bounded : Bounded on.machine) (p : Page)
         let hs : s < size on = step.from_state in
         let w = ((stands_largest on bounded laws p.sheet.settled (held p) genuine settled).simulation s t hs ht stood).1 u step in
         let answers = (walks_decides on.machine (stands (size on) p.pairs s) (stands (size on) p.pairs u) bounded t).1 w in
-        absurd (no_answer.1 (clear_none (answer_tests on.machine p.sheet p.pairs (length walk) s t u) (
-          le-ltb (length walk) p.sheet.count (omega (arith, came.counted, room)),
-          clear_append (settled_tests (size on) p.sheet p.pairs (s ∷ t ∷ u ∷ [])) (step_tests on.machine p.pairs s t u) (settled_clear (s ∷ t ∷ u ∷ []) settled (hs, (ht, (step.to_state, tt))))
-              (not_from_true _ (holds_true _ stood), (not_from_true _ (holds_true _ step.there), (not_from_true _ answers, tt))),
-        ))))
+        let clear = clear_append (settled_tests (size on) p.sheet p.pairs (s ∷ t ∷ u ∷ [])) (step_tests on.machine p.pairs s t u) (settled_clear (s ∷ t ∷ u ∷ []) settled (hs, (ht, (step.to_state, tt))))
+        (not_from_true _ (holds_true _ stood), (not_from_true _ (holds_true _ step.there), (not_from_true _ answers, tt))) in
+        absurd (no_answer.1 (clear_none (answer_tests on.machine p.sheet p.pairs (length walk) s t u) (clear.0, (le-ltb (length walk) p.sheet.count (omega (arith, came.counted, room)), clear.1)))))
     answer_kept s t u walk (Ok d) memory room checked =
         let good = answered_at _ d checked in
-        let low = settled_low (s ∷ t ∷ u ∷ []) (clear_parts (settled_tests (size on) p.sheet p.pairs (s ∷ t ∷ u ∷ [])) (step_tests on.machine p.pairs s t u) (none_clear (answer_tests on.machine p.sheet p.pairs (length walk) s t u) good.1).1).0 in
+        let clear = none_clear (answer_tests on.machine p.sheet p.pairs (length walk) s t u) good.1 in
+        let low = settled_low (s ∷ t ∷ u ∷ []) (clear_parts (settled_tests (size on) p.sheet p.pairs (s ∷ t ∷ u ∷ [])) (step_tests on.machine p.pairs s t u) (clear.0, clear.1.1)).0 in
         record {
           onward = onward_self on p came;
           says = λ k shown is.
@@ -219,11 +219,11 @@ module _ {L : Type 0} (on : Setting L) (bounded : Bounded on.machine) (p : Page)
         }
 
     -- every request of a run
-    pub kept : (blank : List ℕ) → size on ≤ length blank → (q : Request) (a : Reply) (after : Page) → Replies on blank p q a after → Kept on p q a after
-    kept blank room (Try s t) a after x = subst (λ y. Kept on p (Try s t) y after) (sym x.1) (try_kept s t x.0 after x.2)
-    kept blank room (Sweep s) a after x = subst (λ y. Kept on p (Sweep s) y after) (sym x.1) (sweep_kept s x.0 after x.2)
-    kept blank room Settle a after x = subst (λ y. Kept on p Settle y after) (sym x.1) (settle_kept x.0 after x.2)
-    kept blank room (Class s) a after x = as_it_was (Class s) a _ after x.1 x.3 (class_kept s x.0 x.2)
-    kept blank room (Below s t) a after x = as_it_was (Below s t) a _ after x.1 x.3 (below_kept s t x.0 x.2)
-    kept blank room (Reason s t) a after x = as_it_was (Reason s t) a _ after x.1 x.3 (reason_kept s t x.0 x.2)
-    kept blank room (Answer s t u) a after x = as_it_was (Answer s t u) a _ after x.0.2 x.1 (answer_kept s t u blank x.0.0 x.0.1 room x.0.3)
+    pub kept : (q : Request) (a : Reply) (after : Page) → Replies on p q a after → Kept on p q a after
+    kept (Try s t) a after x = subst (λ y. Kept on p (Try s t) y after) (sym x.1) (try_kept s t x.0 after x.2)
+    kept (Sweep s) a after x = subst (λ y. Kept on p (Sweep s) y after) (sym x.1) (sweep_kept s x.0 after x.2)
+    kept Settle a after x = subst (λ y. Kept on p Settle y after) (sym x.1) (settle_kept x.0 after x.2)
+    kept (Class s) a after x = as_it_was (Class s) a _ after x.1 x.3 (class_kept s x.0 x.2)
+    kept (Below s t) a after x = as_it_was (Below s t) a _ after x.1 x.3 (below_kept s t x.0 x.2)
+    kept (Reason s t) a after x = as_it_was (Reason s t) a _ after x.1 x.3 (reason_kept s t x.0 x.2)
+    kept (Answer s t u) a after x = as_it_was (Answer s t u) a _ after x.3 x.6 (answer_kept s t u x.1 x.0 x.2 x.4 x.5)

@@ -1,7 +1,7 @@
 -- The least number that passes. Assumes nothing.
 use Rattle.std.proofs.Common.{◌≡◌, ℕ, zero, suc, ◌<◌, Bool, true, false, ltb, Some, None, sym, refl, ap, ◌∙◌, arith}
 use Rattle.std.proofs.lemmas.Bool.{cond-true, cond-false, lt-ltb, le-ltb}
-use Rattle.sheet.specs.Verdicts.{least, if_below}
+use Rattle.sheet.specs.Verdicts.{least, below}
 
 pub least_is : (p : ℕ → Bool) (n v : ℕ) → v < n → p v ≡ true → ((w : ℕ) → w < v → p w ≡ false) → least p n ≡ v
 least_is p zero v l h f = absurd (omega arith)
@@ -14,8 +14,8 @@ least_none p zero f = refl
 least_none p (suc n) f =
     cond-false (p zero) zero (suc (least (λ i. p (suc i)) n)) (f zero (omega arith)) ∙ ap suc (least_none (λ i. p (suc i)) n (λ w k. f (suc w) (omega arith)))
 
-pub below_is : (p : ℕ → Bool) (n v : ℕ) → v < n → p v ≡ true → ((w : ℕ) → w < v → p w ≡ false) → Some v ≡ if_below n (least p n)
-below_is p n v l h f = sym (cond-true (ltb v n) (Some v) None (lt-ltb v n l)) ∙ ap (if_below n) (sym (least_is p n v l h f))
+pub below_is : (p : ℕ → Bool) (n v : ℕ) → v < n → p v ≡ true → ((w : ℕ) → w < v → p w ≡ false) → Some v ≡ below n (least p n)
+below_is p n v l h f = sym (cond-true (ltb v n) (Some v) None (lt-ltb v n l)) ∙ ap (below n) (sym (least_is p n v l h f))
 
-pub below_none : (p : ℕ → Bool) (n : ℕ) → ((w : ℕ) → w < n → p w ≡ false) → None ≡ if_below n (least p n)
-below_none p n f = sym (cond-false (ltb n n) (Some n) None (le-ltb n n (omega arith))) ∙ ap (if_below n) (sym (least_none p n f))
+pub below_none : (p : ℕ → Bool) (n : ℕ) → ((w : ℕ) → w < n → p w ≡ false) → None ≡ below n (least p n)
+below_none p n f = sym (cond-false (ltb n n) (Some n) None (le-ltb n n (omega arith))) ∙ ap (below n) (sym (least_none p n f))

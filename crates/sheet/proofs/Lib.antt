@@ -7,6 +7,7 @@ pub mod Agreement
 pub mod Growing
 pub mod Settling
 pub mod Came
+pub mod Numbers
 pub mod Telling
 pub mod Records
 pub mod Later

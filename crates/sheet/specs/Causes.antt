@@ -1,33 +1,32 @@
--- Why a call on a sheet is refused: its tests, in rising order of their numbers. Assumes nothing.
-use Rattle.std.specs.Prelude.{ℕ, ◌+◌, ◌*◌, Bool, false, not, ◌||◌, List, [], ◌∷◌, ◌++◌, length, is_some, ◌==◌, nat_le, nat_lt}
+-- The tests of each call on a sheet, in rising order of their numbers, as lists that its checks share. Assumes nothing.
+use Rattle.std.specs.Prelude.{ℕ, ◌*◌, Bool, false, not, ◌||◌, List, [], ◌∷◌, ◌++◌, length, is_some, ◌==◌, nat_lt}
 use Rattle.model.specs.Machines.{Meaning, states}
 use Rattle.strikes.specs.declared.strike.Strike.{Strike}
 use Rattle.sheet.specs.declared.sheet.Sheet.{Sheet}
-use Rattle.sheet.specs.Memory.{stands, standing}
+use Rattle.sheet.specs.Memory.{stands}
 use Rattle.sheet.specs.Verdicts.{answered}
-use Rattle.sheet.specs.Pages.{Page, record_of}
-
--- There are fewer places than pairs of states, by the sheet's own count.
-abbrev pub is_short : Sheet → ℕ → Bool
-is_short sheet room = nat_lt room (sheet.count * sheet.count)
+use Rattle.sheet.specs.Pages.{Page, short_pairs, short_records, outside, unlike, record_of}
 
 -- One of the numbers is no state of the sheet.
 abbrev pub any_outside : Sheet → List ℕ → Bool
 any_outside sheet [] = false
-any_outside sheet (s ∷ ss) = nat_le sheet.count s || any_outside sheet ss
+any_outside sheet (s ∷ ss) = outside sheet s || any_outside sheet ss
 
--- The count is 0 or not the machine's, or standing pairs and strikes do not add up.
-abbrev pub unlike : ℕ → Sheet → List ℕ → Bool
-unlike n sheet pairs =
-    (sheet.count == 0) || (not (sheet.count == n) || not (standing (sheet.count * sheet.count) pairs + sheet.strikes == sheet.count * sheet.count))
+-- Each of the numbers is a state of the sheet.
+abbrev pub number_tests : Sheet → List ℕ → List (Bool × ℕ)
+number_tests sheet [] = []
+number_tests sheet (s ∷ ss) = (outside sheet s, 7) ∷ number_tests sheet ss
 
--- What every call tests of its sheet, with the numbers that it is given, on a machine of n states.
+-- What every call tests of its sheet beside memory, with the numbers that it is given, on a machine of n states.
+abbrev pub own_tests : ℕ → Sheet → List ℕ → List ℕ → List (Bool × ℕ)
+own_tests n sheet pairs numbers = number_tests sheet numbers ++ (unlike n sheet pairs, 8) ∷ []
+
 abbrev pub sheet_tests : ℕ → Sheet → List ℕ → List ℕ → List (Bool × ℕ)
-sheet_tests n sheet pairs numbers = (is_short sheet (length pairs), 6) ∷ (any_outside sheet numbers, 7) ∷ (unlike n sheet pairs, 8) ∷ []
+sheet_tests n sheet pairs numbers = (short_pairs sheet pairs, 6) ∷ own_tests n sheet pairs numbers
 
 -- What a call that has strike memory tests.
 abbrev pub page_tests : ℕ → Page → List ℕ → List (Bool × ℕ)
-page_tests n p numbers = (is_short p.sheet (length p.records), 6) ∷ sheet_tests n p.sheet p.pairs numbers
+page_tests n p numbers = (short_pairs p.sheet p.pairs, 6) ∷ (short_records p.sheet p.records, 6) ∷ own_tests n p.sheet p.pairs numbers
 
 -- What a call that needs a settled sheet tests.
 abbrev pub settled_tests : ℕ → Sheet → List ℕ → List ℕ → List (Bool × ℕ)
@@ -62,6 +61,9 @@ reason_tests n p s t = page_tests n p (s ∷ t ∷ []) ++ record_tests n p s t
 abbrev pub step_tests : {L : Type 0} → Meaning L → List ℕ → ℕ → ℕ → ℕ → List (Bool × ℕ)
 step_tests m pairs s t u = (not (stands (states m) pairs s t), 10) ∷ (not (m.step s u), 11) ∷ (not (answered m pairs s u t), 11) ∷ []
 
--- A walk has a place for each state.
+-- What is tested before the step: a walk has a place for each state.
+abbrev pub walk_tests : ℕ → Sheet → List ℕ → ℕ → List ℕ → List (Bool × ℕ)
+walk_tests n sheet pairs room numbers = (short_pairs sheet pairs, 6) ∷ (nat_lt room sheet.count, 6) ∷ own_tests n sheet pairs numbers ++ (not sheet.settled, 9) ∷ []
+
 abbrev pub answer_tests : {L : Type 0} → Meaning L → Sheet → List ℕ → ℕ → ℕ → ℕ → ℕ → List (Bool × ℕ)
-answer_tests m sheet pairs room s t u = (nat_lt room sheet.count, 6) ∷ settled_tests (states m) sheet pairs (s ∷ t ∷ u ∷ []) ++ step_tests m pairs s t u
+answer_tests m sheet pairs room s t u = walk_tests (states m) sheet pairs room (s ∷ t ∷ u ∷ []) ++ step_tests m pairs s t u

@@ -1,3 +1,4 @@
+pub mod Lasting
 pub mod Memory
 pub mod Verdicts
 pub mod Genuine

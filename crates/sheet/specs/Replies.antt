@@ -1,5 +1,5 @@
 -- What one call of a run replies, and the page after it. Assumes nothing.
-use Rattle.std.specs.Prelude.{◌≡◌, ℕ, Bool, List, Ok, Err, Result}
+use Rattle.std.specs.Prelude.{◌≡◌, ℕ, ◌≤◌, Bool, List, length, Ok, Err, Result}
 use Rattle.model.specs.declared.refusal.Refusal.{Refusal}
 use Rattle.model.specs.Machines.{Meaning}
 use Rattle.strikes.specs.declared.strike.Strike.{Strike}
@@ -18,12 +18,7 @@ abbrev pub reply : {A : Type 0} → (A → Reply) → Result A Refusal → Reply
 reply name (Ok a) = name a
 reply name (Err e) = Refused e
 
--- The reply to a request for an answer: a walk is written into a copy of the blank memory.
-abbrev pub Walks : {L : Type 0} → Meaning L → List ℕ → Sheet → List ℕ → ℕ → ℕ → ℕ → Reply → Type 0
-Walks m blank sheet pairs s t u a = (r : Result ℕ Refusal) × (memory : List ℕ) × (a ≡ reply (λ k. Walked k memory) r) × Answers m sheet pairs s t u blank r memory
-
-module _ {L : Type 0} (on : Setting L) (blank : List ℕ) where
-  -- The request is made on the page p.
+module _ {L : Type 0} (on : Setting L) where
   abbrev pub Replies : Page → Request → Reply → Page → Type 0
   Replies p (Try s t) a after = (r : Result Verdict Refusal) × (a ≡ reply Tried r) × Tries on p s t r after
   Replies p (Sweep s) a after = (r : Result ℕ Refusal) × (a ≡ reply Swept r) × Sweeps on p s r after
@@ -31,4 +26,19 @@ module _ {L : Type 0} (on : Setting L) (blank : List ℕ) where
   Replies p (Class s) a after = (r : Result ℕ Refusal) × (a ≡ reply ClassIs r) × Classes (size on) p.sheet p.pairs s r × (after ≡ p)
   Replies p (Below s t) a after = (r : Result Bool Refusal) × (a ≡ reply IsBelow r) × Belows (size on) p.sheet p.pairs s t r × (after ≡ p)
   Replies p (Reason s t) a after = (r : Result Strike Refusal) × (a ≡ reply ReasonIs r) × Reasons (size on) p s t r × (after ≡ p)
-  Replies p (Answer s t u) a after = Walks on.machine blank p.sheet p.pairs s t u a × (after ≡ p)
+  Replies p (Answer s t u) a after =
+      (r : Result ℕ Refusal) × (walk : List ℕ) × (memory : List ℕ) × (a ≡ reply (λ k. Walked k memory) r) × (size on ≤ length walk) × Answers on.machine p.sheet p.pairs s t u walk r memory × (after ≡ p)
+
+-- The reply to a request for an answer: a walk is written into a copy of the blank memory.
+abbrev pub Walks : {L : Type 0} → Meaning L → List ℕ → Sheet → List ℕ → ℕ → ℕ → ℕ → Reply → Type 0
+Walks m blank sheet pairs s t u a = (r : Result ℕ Refusal) × (memory : List ℕ) × (a ≡ reply (λ k. Walked k memory) r) × Answers m sheet pairs s t u blank r memory
+
+-- The same as Replies, where every walk is written into such a copy.
+abbrev pub RepliesInto : {L : Type 0} → Setting L → List ℕ → Page → Request → Reply → Page → Type 0
+RepliesInto on blank p (Try s t) a after = Replies on p (Try s t) a after
+RepliesInto on blank p (Sweep s) a after = Replies on p (Sweep s) a after
+RepliesInto on blank p Settle a after = Replies on p Settle a after
+RepliesInto on blank p (Class s) a after = Replies on p (Class s) a after
+RepliesInto on blank p (Below s t) a after = Replies on p (Below s t) a after
+RepliesInto on blank p (Reason s t) a after = Replies on p (Reason s t) a after
+RepliesInto on blank p (Answer s t u) a after = Walks on.machine blank p.sheet p.pairs s t u a × (after ≡ p)

@@ -16,8 +16,8 @@ least p zero = zero
 least p (suc n) = cond (p zero) zero (suc (least (λ i. p (suc i)) n))
 
 -- A number below n, or nothing.
-abbrev pub if_below : ℕ → ℕ → Option ℕ
-if_below n u = cond (nat_lt u n) (Some u) None
+abbrev pub below : ℕ → ℕ → Option ℕ
+below n u = cond (nat_lt u n) (Some u) None
 
 abbrev pub strike : (first second : ℕ) (ground : Ground) → Strike
 strike s t g = record { first = s; second = t; ground = g }
@@ -50,7 +50,7 @@ module _ {L : Type 0} (m : Meaning L) where
 
   -- The least state whose step is unanswered, if any.
   abbrev pub least_unanswered : List ℕ → ℕ → ℕ → Option ℕ
-  least_unanswered pairs s t = if_below (states m) (least (unanswered pairs s t) (states m))
+  least_unanswered pairs s t = below (states m) (least (unanswered pairs s t) (states m))
 
 -- A machine with an order on its labels.
 pub record Setting (L : Type 0) : Type 0 where

@@ -11,12 +11,13 @@ ghost use Rattle.sheet.specs.Replies.{reply};
 ghost use Rattle.sheet.specs.Promises.{Promise, CameUnderAll, PromiseUnderAll};
 
 use crate::lookup::{class_of, record_of};
+use crate::memory::StrikeMemory;
 use crate::sheet::Sheet;
 use crate::striking::{attempt, strike_all, sweep_row};
 use crate::verdict::Verdict;
 use crate::walking::write_walk;
 use model::{Machine, Order, Refusal, State};
-use strikes::{Strike, StrikeMemory};
+use strikes::Strike;
 use until::marked;
 
 /// Begins a sheet: every pair stands, and nothing is struck. The strike memory is untouched.

@@ -1,22 +1,22 @@
 //! The checks that a call makes before it does anything.
-ghost use Rattle.std.specs.Prelude.{◌≡◌, ◌*◌, ◌≤◌, length};
+ghost use Rattle.std.specs.Prelude.{◌≡◌, ◌*◌, ◌≤◌, length, nat_lt};
 ghost use Rattle.model.specs.Machines.{states};
 ghost use Rattle.model.specs.Refusals.{Passes};
 ghost use Rattle.sheet.specs.Memory.{standing};
-ghost use Rattle.sheet.specs.Pages.{page};
-ghost use Rattle.sheet.specs.Causes.{is_short, any_outside, unlike, sheet_tests, page_tests, settled_tests};
+ghost use Rattle.sheet.specs.Pages.{page, unlike};
+ghost use Rattle.sheet.specs.Causes.{any_outside, sheet_tests, page_tests, settled_tests};
 
+use crate::memory::StrikeMemory;
 use crate::sheet::Sheet;
 use model::{Machine, Refusal};
-use strikes::StrikeMemory;
 
 impl Sheet {
-    /// Whether there are fewer places than pairs of states.
-    fn is_short(&self, room: usize) -> bool
-        ensures { result ≡ is_short self.now room }
+    /// Whether `len` places are fewer than there are pairs of states.
+    pub(crate) fn is_short(&self, len: usize) -> bool
+        ensures { result ≡ nat_lt len (self.now.count * self.now.count) }
     {
         match self.count.checked_mul(self.count) {
-            Some(all) => room < all,
+            Some(all) => len < all,
             None => true,
         }
     }
@@ -33,19 +33,6 @@ impl Sheet {
         false
     }
 
-    /// Whether the count is 0 or not the machine's, or strikes and standing pairs do not add up.
-    fn is_unlike<M: Machine>(&self, machine: &M, pairs: &[u8]) -> bool
-        requires { self.now.count * self.now.count ≤ length pairs.now }
-        ensures { result ≡ unlike (states (M.Machine.meaning machine.now)) self.now pairs.now }
-    {
-        let n = machine.count();
-        if self.count == 0 || self.count != n {
-            return true;
-        }
-        let all = n * n;
-        self.strikes != all - count_standing(pairs, all)
-    }
-
     /// Refuses short pair memory, then a number that is no state, then a sheet of another count or that
     /// does not add up.
     fn check<M: Machine>(&self, machine: &M, pairs: &[u8], numbers: &[usize]) -> Result<(), Refusal>
@@ -57,7 +44,7 @@ impl Sheet {
         if self.is_any_outside(numbers) {
             return Err(Refusal::NoSuchState);
         }
-        if self.is_unlike(machine, pairs) {
+        if is_unlike(machine, self, pairs) {
             return Err(Refusal::OtherSheet);
         }
         Ok(())
@@ -109,4 +96,17 @@ fn count_standing(pairs: &[u8], k: usize) -> usize
         }
     }
     sum
+}
+
+/// Whether the sheet is not the machine's, or its strikes and the standing pairs do not add up.
+pub(crate) fn is_unlike<M: Machine>(machine: &M, sheet: &Sheet, pairs: &[u8]) -> bool
+    requires { sheet.now.count * sheet.now.count ≤ length pairs.now }
+    ensures { result ≡ unlike (states (M.Machine.meaning machine.now)) sheet.now pairs.now }
+{
+    let n = machine.count();
+    if sheet.count == 0 || sheet.count != n {
+        return true;
+    }
+    let all = n * n;
+    sheet.strikes != all - count_standing(pairs, all)
 }

@@ -9,7 +9,7 @@ use strikes::Ground;
 use until::{marked, reached, row};
 
 /// Whether the label of `s` is at most that of `t`.
-fn label_at_most<M: Machine, O: Order<Label = M::Label>>(
+fn labels_agree<M: Machine, O: Order<Label = M::Label>>(
     machine: &M,
     order: &O,
     s: usize,
@@ -59,7 +59,7 @@ pub(crate) fn ground_of<M: Machine, O: Order<Label = M::Label>>(
     requires { t < states (M.Machine.meaning machine.now) }
     ensures { result ≡ ground_of (setting (O.Order.relation order.now) (M.Machine.meaning machine.now)) pairs.now s t }
 {
-    if !label_at_most(machine, order, s, t) {
+    if !labels_agree(machine, order, s, t) {
         return Some(Ground::ByLabel);
     }
     match least_unanswered(machine, pairs, s, t) {

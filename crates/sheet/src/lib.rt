@@ -5,6 +5,7 @@ pub mod calls;
 mod checks;
 mod judge;
 mod lookup;
+pub mod memory;
 pub mod request;
 pub mod run;
 pub mod sheet;
@@ -13,6 +14,7 @@ pub mod verdict;
 mod walking;
 
 pub use calls::{answer, begin, below, class, reason, settle, sweep, try_pair};
+pub use memory::{StrikeMemory, StrikeSlice};
 pub use request::{Reply, Request};
 pub use run::run_requests;
 pub use sheet::Sheet;

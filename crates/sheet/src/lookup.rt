@@ -3,13 +3,14 @@ ghost use Rattle.std.specs.Prelude.{◌≡◌, ◌*◌, ◌<◌, ◌≤◌, leng
 ghost use Rattle.sheet.specs.Pages.{page, first_naming};
 ghost use Rattle.sheet.specs.Calls.{are_alike, class_of, ShowsRecord};
 
+use crate::memory::StrikeMemory;
 use crate::sheet::Sheet;
 use model::Refusal;
-use strikes::{Strike, StrikeMemory};
+use strikes::Strike;
 use until::marked;
 
 /// Whether `s` and `u` stand both ways.
-fn alike(pairs: &[u8], n: usize, s: usize, u: usize) -> bool
+pub(crate) fn alike(pairs: &[u8], n: usize, s: usize, u: usize) -> bool
     requires first { s < n }
     requires second { u < n }
     requires room { n * n ≤ length pairs.now }

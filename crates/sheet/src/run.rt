@@ -1,14 +1,14 @@
 //! Runs: a list of requests, made in turn on one sheet.
 ghost use Rattle.sheet.specs.Verdicts.{setting};
 ghost use Rattle.sheet.specs.Pages.{page};
-ghost use Rattle.sheet.specs.Replies.{reply, Walks, Replies};
+ghost use Rattle.sheet.specs.Replies.{reply, Walks, RepliesInto};
 ghost use Rattle.sheet.specs.Runs.{Runs, blank_walk};
 
 use crate::calls::{answer, begin, below, class, reason, settle, sweep, try_pair};
+use crate::memory::StrikeMemory;
 use crate::request::{Reply, Request};
 use crate::sheet::Sheet;
 use model::{Machine, Order, Refusal, STATE_BOUND};
-use strikes::StrikeMemory;
 
 /// Answers into memory of its own, and names the good answer.
 fn walk<M: Machine>(
@@ -35,7 +35,7 @@ fn make<M: Machine, O: Order<Label = M::Label>, S: StrikeMemory>(
     strikes: &mut S,
     request: Request,
 ) -> Result<Reply, Refusal>
-    ensures answer { Replies (setting (O.Order.relation order.now) (M.Machine.meaning machine.now)) blank_walk (page sheet.old pairs.old (S.StrikeMemory.records strikes.old)) request (reply (λ a. a) result) (page sheet.new pairs.new (S.StrikeMemory.records strikes.new)) }
+    ensures answer { RepliesInto (setting (O.Order.relation order.now) (M.Machine.meaning machine.now)) blank_walk (page sheet.old pairs.old (S.StrikeMemory.records strikes.old)) request (reply (λ a. a) result) (page sheet.new pairs.new (S.StrikeMemory.records strikes.new)) }
     ensures same { S.StrikeMemory.same strikes.old strikes.new }
 {
     match request {

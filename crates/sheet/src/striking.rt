@@ -5,9 +5,10 @@ ghost use Rattle.sheet.specs.Memory.{memory as held, Ready};
 ghost use Rattle.sheet.specs.Verdicts.{setting, verdict_of, strikes_in, tried, swept, passed, settled};
 
 use crate::judge::ground_of;
+use crate::memory::StrikeMemory;
 use crate::verdict::Verdict;
 use model::{Machine, Order, State};
-use strikes::{Strike, StrikeMemory};
+use strikes::Strike;
 
 /// Tries the pair (s, t), and strikes it if it stands and has a ground.
 pub(crate) fn attempt<M: Machine, O: Order<Label = M::Label>, S: StrikeMemory>(

@@ -8,12 +8,12 @@ use Rattle.until.specs.Decided.{walks}
 use Rattle.until.proofs.Decided.{walks_decides}
 use Rattle.strikes.specs.declared.strike.Ground.TheVariants.{ByLabel, ByStep}
 use Rattle.strikes.specs.declared.strike.Strike.{Strike}
-use Rattle.strikes.specs.Simulations.{under, LabelAtMost, Answered, Simulation}
+use Rattle.strikes.specs.Simulations.{under, LabelsAgree, Answered, Simulation}
 use Rattle.strikes.specs.Strikes.{struck, Standing, Stable}
 
 module _ {L : Type 0} (at_most : L → L → Bool) (m : Meaning L) (bounded : Bounded m) (ks : List Strike) (stable : Stable at_most m ks) where
-  label_at_most : (s t : ℕ) → s < states m → t < states m → Standing ks s t → LabelAtMost at_most m s t
-  label_at_most s t hs ht stands =
+  labels_agree : (s t : ℕ) → s < states m → t < states m → Standing ks s t → LabelsAgree at_most m s t
+  labels_agree s t hs ht stands =
       ⊎_elim
       (true_holds (under at_most (label_of m s) (label_of m t)))
       (λ e. absurd (stable s t hs ht stands ByLabel (false_fails (under at_most (label_of m s) (label_of m t)) e)))
@@ -30,4 +30,4 @@ module _ {L : Type 0} (at_most : L → L → Bool) (m : Meaning L) (bounded : Bo
       (cases_Bool (walks m ok goal t))
 
   pub stable_simulation : Simulation at_most m (Standing ks)
-  stable_simulation s t hs ht stands = (label_at_most s t hs ht stands, step_answered s t hs ht stands)
+  stable_simulation s t hs ht stands = (labels_agree s t hs ht stands, step_answered s t hs ht stands)

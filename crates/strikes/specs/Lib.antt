@@ -2,4 +2,3 @@ pub mod Simulations
 pub mod Strikes
 pub mod Told
 pub mod Statements
-pub mod Lasting

@@ -11,8 +11,8 @@ under at_most (Some a) b = meets at_most a b
 
 module _ {L : Type 0} (at_most : L → L → Bool) (m : Meaning L) where
   -- The label of s is at most that of t.
-  abbrev pub LabelAtMost : ℕ → ℕ → Type 0
-  LabelAtMost s t = T (under at_most (label_of m s) (label_of m t))
+  abbrev pub LabelsAgree : ℕ → ℕ → Type 0
+  LabelsAgree s t = T (under at_most (label_of m s) (label_of m t))
 
   -- The step from s to u is answered from t: a walk stands against s before its last state, and against u at it.
   abbrev pub Answered : (ℕ → ℕ → Type 0) → ℕ → ℕ → ℕ → Type 0
@@ -21,4 +21,4 @@ module _ {L : Type 0} (at_most : L → L → Bool) (m : Meaning L) where
   -- R is a simulation: where it relates s to t, their labels agree and each step of s is answered from t.
   abbrev pub Simulation : (ℕ → ℕ → Type 0) → Type 0
   Simulation R =
-      (s t : ℕ) → s < states m → t < states m → R s t → LabelAtMost s t × ((u : ℕ) → Step m s u → Answered R s u t)
+      (s t : ℕ) → s < states m → t < states m → R s t → LabelsAgree s t × ((u : ℕ) → Step m s u → Answered R s u t)

@@ -4,7 +4,7 @@ use Rattle.model.specs.Machines.{Meaning, states, Step}
 use Rattle.strikes.specs.declared.strike.Ground.{Ground}
 use Rattle.strikes.specs.declared.strike.Ground.TheVariants.{ByLabel, ByStep}
 use Rattle.strikes.specs.declared.strike.Strike.{Strike}
-use Rattle.strikes.specs.Simulations.{LabelAtMost, Answered}
+use Rattle.strikes.specs.Simulations.{LabelsAgree, Answered}
 
 -- k strikes the pair (s, t).
 abbrev pub names : Strike → ℕ → ℕ → Bool
@@ -20,7 +20,7 @@ Standing ks s t = T (not (struck ks s t))
 module _ {L : Type 0} (at_most : L → L → Bool) (m : Meaning L) where
   -- The pair (s, t) may be struck on a ground, where the pairs of R stand.
   abbrev pub Grounded : (ℕ → ℕ → Type 0) → ℕ → ℕ → Ground → Type 0
-  Grounded R s t ByLabel = LabelAtMost at_most m s t → ⊥
+  Grounded R s t ByLabel = LabelsAgree at_most m s t → ⊥
   Grounded R s t (ByStep u) = Step m s u × (Answered at_most m R s u t → ⊥)
 
   -- k strikes a standing pair of states on a ground.

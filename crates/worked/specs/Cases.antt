@@ -31,8 +31,9 @@ one = table_meaning (label 1 ∷ []) (0 ∷ [])
 abbrev pub three : Meaning FlagSet
 three = table_meaning (label 1 ∷ label 1 ∷ label 2 ∷ []) (0 ∷ 1 ∷ 0 ∷ 0 ∷ 0 ∷ 1 ∷ 0 ∷ 0 ∷ 0 ∷ [])
 
+-- Labels 1 and 2 with a step from the first to the second, beside the label 1 alone.
 abbrev pub two_beside_one : Meaning FlagSet
-two_beside_one = beside_meaning two one
+two_beside_one = beside_meaning (table_meaning (label 1 ∷ label 2 ∷ []) (0 ∷ 1 ∷ 0 ∷ 0 ∷ [])) (table_meaning (label 1 ∷ []) (0 ∷ []))
 
 abbrev pub two_beside_three : Meaning FlagSet
 two_beside_three = beside_meaning two three

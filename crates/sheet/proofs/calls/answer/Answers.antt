@@ -1,4 +1,4 @@
-use Rattle.std.proofs.Common.{ltb, [], ◌∷◌, ◌++◌, length, refl}
+use Rattle.std.proofs.Common.{[], ◌∷◌, refl}
 use Rattle.std.proofs.lemmas.Bool.{le-ltb}
 use Rattle.model.specs.Machines.{states}
 use Rattle.model.proofs.Checks.{passed, then_check, stopped}
@@ -6,6 +6,7 @@ use Rattle.sheet.specs.Verdicts.{setting}
 use Rattle.sheet.specs.Pages.{page}
 use Rattle.sheet.specs.Causes.{settled_tests, step_tests}
 use Rattle.sheet.specs.Calls.{Answers}
+use Rattle.sheet.proofs.Answering.{past_walk}
 use Rattle.sheet.proofs.Keeping.{answer_kept}
 use Rattle.sheet.proofs.calls.answer.Goals as goal
 
@@ -21,7 +22,7 @@ returns-in_err-check_settled g c =
     let out = c.from_residual.result in
     let tests = settled_tests (states m) sheet pairs (s ∷ t ∷ u ∷ []) in
     let answer : Answers m sheet pairs s t u walk out walk =
-    then_check ((ltb (length walk) sheet.count, 6) ∷ []) (tests ++ step_tests m pairs s t u) out (le-ltb _ _ c.if-walk-sheet.false, tt)
+    past_walk m sheet pairs s t u walk walk out (le-ltb _ _ c.if-walk-sheet.false)
     (stopped tests (step_tests m pairs s t u) c.check_settled.result c.in_err-check_settled.field-0.0 out c.check_settled.ensures c.in_err-check_settled.was c.from_residual.ensures.1 refl) in
     record {
       answer = answer;
@@ -42,7 +43,7 @@ returns g c =
     let tests = settled_tests (states m) sheet pairs (s ∷ t ∷ u ∷ []) in
     let clear = passed tests c.check_settled.result c.check_settled.ensures c.in_ok-check_settled.was in
     let answer : Answers m sheet pairs s t u walk out after =
-    then_check ((ltb (length walk) sheet.count, 6) ∷ []) (tests ++ step_tests m pairs s t u) out (le-ltb _ _ c.if-walk-sheet.false, tt)
+    past_walk m sheet pairs s t u walk after out (le-ltb _ _ c.if-walk-sheet.false)
     (then_check tests (step_tests m pairs s t u) out clear c.write_walk.ensures) in
     record {
       answer = answer;

@@ -1,4 +1,4 @@
-use Rattle.std.proofs.Common.{◌≡◌, [], ◌∷◌, Ok, ap, ◌∙◌}
+use Rattle.std.proofs.Common.{[], ◌∷◌, Ok, ap, ◌∙◌}
 use Rattle.model.specs.Machines.{states}
 use Rattle.model.proofs.Checks.{when_answered, clear_none, passed, stopped}
 use Rattle.sheet.specs.Verdicts.{setting}

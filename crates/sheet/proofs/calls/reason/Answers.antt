@@ -1,11 +1,11 @@
-use Rattle.std.proofs.Common.{◌≡◌, [], ◌∷◌, subst}
+use Rattle.std.proofs.Common.{[], ◌∷◌, subst}
 use Rattle.model.specs.Machines.{states}
 use Rattle.model.proofs.Checks.{passed, then_check, stopped}
 use Rattle.sheet.specs.Verdicts.{setting}
 use Rattle.sheet.specs.Pages.{page}
 use Rattle.sheet.specs.Causes.{page_tests, record_tests}
 use Rattle.sheet.specs.Calls.{ShowsRecord, Reasons}
-use Rattle.sheet.proofs.Came.{fits}
+use Rattle.sheet.proofs.Came.{page_fits}
 use Rattle.sheet.proofs.Keeping.{reason_kept}
 use Rattle.sheet.proofs.calls.reason.Goals as goal
 
@@ -30,6 +30,6 @@ returns g c =
     let out = c.record_of.result in
     let tests = page_tests (states m) p (s ∷ t ∷ []) in
     let clear = passed tests c.check_page.result c.check_page.ensures c.in_ok-check_page.was in
-    let counted = (fits (states m) sheet p.pairs (s ∷ t ∷ []) clear.1).counted in
+    let counted = (page_fits (states m) p (s ∷ t ∷ []) clear).counted in
     let answer : Reasons (states m) p s t out = then_check tests (record_tests (states m) p s t) out clear (subst (λ n. ShowsRecord n p s t out) counted c.record_of.ensures) in
     record { answer = answer; promise = λ at_most laws came. reason_kept (setting at_most m) (g.M.Machine.bounded c.args.machine.now) p came laws s t out answer }

@@ -1,4 +1,4 @@
-use Rattle.std.proofs.Common.{◌≡◌, ◌-◌, Ok, ap, arith}
+use Rattle.std.proofs.Common.{◌-◌, Ok, ap, arith}
 use Rattle.model.specs.Machines.{states}
 use Rattle.model.proofs.Checks.{when_answered, clear_none, passed}
 use Rattle.sheet.specs.Memory.{Memory}

@@ -13,6 +13,7 @@ use Rattle.sheet.specs.Causes.{begin_tests}
 use Rattle.sheet.specs.Calls.{Begins}
 use Rattle.sheet.specs.Promises.{CameUnderAll}
 use Rattle.sheet.specs.Runs.{run_tests, InTurn}
+use Rattle.sheet.proofs.Beginning.{begun_is}
 use Rattle.sheet.proofs.Running.{then_page, in_turn_none, in_turn_more, in_turn_law}
 use Rattle.sheet.proofs.run.run_requests.Goals as goal
 
@@ -62,12 +63,13 @@ returns g c =
     let began = answered_at (cause tests) sheet begins in
     let clear = clear_append tests ((ltb (length c.args.replies.now) (length requests), 6) ∷ []) (none_clear tests began.1) (le-ltb _ _ c.if-replies-requests.false, tt) in
     let begun = begun_page (states m) pairs before in
-    let came : Came on begun = subst (Came on) began.0 (IfOk-at_ok (λ x. CameUnderAll m (page x c.begin.new.pairs before)) c.in_ok-sheet.was c.begin.ensures.came (g.O.Order.relation order)) in
+    let is = begun_is (states m) pairs c.begin.new.pairs before sheet began.0 in
+    let came : Came on begun = subst (Came on) is (IfOk-at_ok (λ x. CameUnderAll m (page x c.begin.new.pairs before)) c.in_ok-sheet.was c.begin.ensures.came (g.O.Order.relation order)) in
     let done : c.loop-k.k ≡ length requests = omega (arith, c.loop-k-test.false, c.loop-k.auto.k-end) in
     let pages = c.loop-k.invariant.0.0 in
     let last = page c.loop-k.sheet c.loop-k.pairs (records c.loop-k.strikes) in
     let run : InTurn on pages requests (take (length requests) replies) begun last =
-    subst (λ k. InTurn on pages requests (take k replies) begun last) done (subst (λ p. InTurn on pages requests (take c.loop-k.k replies) p last) began.0 c.loop-k.invariant.0.1) in
+    subst (λ k. InTurn on pages requests (take k replies) begun last) done (subst (λ p. InTurn on pages requests (take c.loop-k.k replies) p last) is c.loop-k.invariant.0.1) in
     record {
       answer = when_answered (clear_none (run_tests (states m) pairs before requests c.args.replies.now) clear) (record {
         kept = c.loop-k.auto.replies;

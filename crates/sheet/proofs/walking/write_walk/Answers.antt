@@ -1,5 +1,4 @@
-use Rattle.std.proofs.Common.{◌≡◌, sym, ap, ◌∙◌, subst}
-use Rattle.model.specs.declared.refusal.Refusal.TheVariants.{NoSuchStep}
+use Rattle.std.proofs.Common.{sym, ap, ◌∙◌, subst}
 use Rattle.until.specs.Rows.{row_of}
 use Rattle.sheet.specs.Memory.{stands}
 use Rattle.sheet.specs.Calls.{WritesWalk}

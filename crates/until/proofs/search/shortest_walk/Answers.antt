@@ -4,7 +4,6 @@ use Rattle.model.proofs.Checks.{when_answered, room_enough}
 use Rattle.until.specs.Searches.{Marked}
 use Rattle.until.specs.Explored.{Closest}
 use Rattle.until.proofs.Trail.{Trail, trail_start, trail_back, trail_more, trail_home, trail_end, no_trail}
-use Rattle.until.proofs.search.shortest_walk.Given as given
 use Rattle.until.proofs.search.shortest_walk.Goals as goal
 
 pub returns-in_default : goal.returns-in_default

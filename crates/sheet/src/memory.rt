@@ -2,9 +2,9 @@
 ghost use Rattle.std.specs.Prelude.{◌≡◌, List, length, slice_set};
 ghost use Rattle.std.specs.List.{slice_get};
 ghost use Rattle.strikes.specs.declared.strike.Strike.{Strike as StrikeRecord};
-ghost use Rattle.strikes.specs.Lasting.{Lasting, by_name};
+ghost use Rattle.sheet.specs.Lasting.{Lasting, by_name};
 
-use crate::strike::Strike;
+use strikes::Strike;
 
 /// Places for strike records.
 pub trait StrikeMemory {

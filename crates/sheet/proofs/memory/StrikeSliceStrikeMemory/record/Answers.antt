@@ -1,6 +1,6 @@
 use Rattle.std.proofs.Common.{sym}
 use Rattle.std.proofs.lemmas.Option.{slice_get-get_or, slice_get_past}
-use Rattle.strikes.proofs.memory.StrikeSliceStrikeMemory.record.Goals as goal
+use Rattle.sheet.proofs.memory.StrikeSliceStrikeMemory.record.Goals as goal
 
 pub returns-then-k-self : goal.returns-then-k-self
 returns-then-k-self c = sym (slice_get-get_or c.args.self.now.items.now c.args.k _ c.if-k-self.true)
