@@ -1,6 +1,6 @@
 //! A strike.
 ghost use Rattle.std.specs.Prelude.{◌≡◌};
-ghost use Rattle.strikes.specs.Strikes.{names as names-pair};
+ghost use Rattle.strikes.specs.Strikes.{names as names_pair};
 
 use model::State;
 
@@ -24,7 +24,7 @@ pub struct Strike {
 impl Strike {
     /// Whether this strikes the pair (s, t).
     pub fn names(&self, s: usize, t: usize) -> bool
-        ensures { result ≡ names-pair self.now s t }
+        ensures { result ≡ names_pair self.now s t }
     {
         usize::from(self.first) == s && usize::from(self.second) == t
     }
