@@ -8,6 +8,7 @@ pub mod Growing
 pub mod Settling
 pub mod Came
 pub mod Numbers
+pub mod Summing
 pub mod Telling
 pub mod Records
 pub mod Later
