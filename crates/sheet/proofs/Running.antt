@@ -100,13 +100,8 @@ module _ {L : Type 0} (on : Setting L) where
 
   -- what is written into a copy of the blank memory is written into memory with a place for each state
   replied_into : (blank : List ℕ) → size on ≤ length blank → (p : Page) (q : Request) (a : Reply) (after : Page) → RepliesInto on blank p q a after → Replies on p q a after
-  replied_into blank room p (Try s t) a after x = x
-  replied_into blank room p (Sweep s) a after x = x
-  replied_into blank room p Settle a after x = x
-  replied_into blank room p (Class s) a after x = x
-  replied_into blank room p (Below s t) a after x = x
-  replied_into blank room p (Reason s t) a after x = x
   replied_into blank room p (Answer s t u) a after x = (x.0.0, blank, x.0.1, x.0.2, room, x.0.3, x.1)
+  replied_into blank room p q a after x = x
 
   -- Replies made in turn, each as stated, from a page that came about by strikes.
   module _ (bounded : Bounded on.machine) (laws : Preorder on.at_most) (pages : ℕ → Page) (requests : List Request) (replies : List Reply) (came : Came on (pages zero))

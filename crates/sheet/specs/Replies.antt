@@ -35,10 +35,5 @@ Walks m blank sheet pairs s t u a = (r : Result ℕ Refusal) × (memory : List �
 
 -- The same as Replies, where every walk is written into such a copy.
 abbrev pub RepliesInto : {L : Type 0} → Setting L → List ℕ → Page → Request → Reply → Page → Type 0
-RepliesInto on blank p (Try s t) a after = Replies on p (Try s t) a after
-RepliesInto on blank p (Sweep s) a after = Replies on p (Sweep s) a after
-RepliesInto on blank p Settle a after = Replies on p Settle a after
-RepliesInto on blank p (Class s) a after = Replies on p (Class s) a after
-RepliesInto on blank p (Below s t) a after = Replies on p (Below s t) a after
-RepliesInto on blank p (Reason s t) a after = Replies on p (Reason s t) a after
 RepliesInto on blank p (Answer s t u) a after = Walks on.machine blank p.sheet p.pairs s t u a × (after ≡ p)
+RepliesInto on blank p q a after = Replies on p q a after

@@ -25,7 +25,7 @@ module _ {L : Type 0} (m : Meaning L) (row : List ℕ) (s : ℕ) (reached : List
       (cases_lt u (states m))
 
   pub nothing_reached : states m ≤ s → ((v : ℕ) → get_or reached v false ≡ false) → Reached m row s reached
-  nothing_reached no-state none u = (λ e. absurd (false≢true (sym (none u) ∙ e)), λ r. absurd (omega (arith, r.0)))
+  nothing_reached no_state none u = (λ e. absurd (false≢true (sym (none u) ∙ e)), λ r. absurd (omega (arith, r.0)))
 
 -- an answer that tells whether there is a walk is the test for one
 pub exists_test : {L : Type 0} {m : Meaning L} → Bounded m → (row goal : List ℕ) (s : ℕ) (r : Bool) → Decides r (WalkFromState m row (Marked goal) s) → r ≡ walk_exists m row goal s
