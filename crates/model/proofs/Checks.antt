@@ -38,13 +38,9 @@ finds b k rest e = cond-true b (Some k) (cause rest) e
 pub passes : (b : Bool) (k : ℕ) (rest : List (Bool × ℕ)) (o : Option ℕ) → b ≡ false → cause rest ≡ o → cause ((b, k) ∷ rest) ≡ o
 passes b k rest o e f = cond-false b (Some k) (cause rest) e ∙ f
 
--- The second of two tests: where it passes it may be left out, and where it finds their one cause the first does not matter.
+-- The second of two tests may be left out where it passes.
 pub passes_behind : (a b : Bool) (j k : ℕ) (rest : List (Bool × ℕ)) → b ≡ false → cause ((a, j) ∷ (b, k) ∷ rest) ≡ cause ((a, j) ∷ rest)
 passes_behind a b j k rest e = ap (cond a (Some j)) (passes b k rest (cause rest) e refl)
-
-pub finds_behind : (a b : Bool) (k : ℕ) (rest : List (Bool × ℕ)) → b ≡ true → cause ((a, k) ∷ (b, k) ∷ rest) ≡ Some k
-finds_behind true b k rest e = refl
-finds_behind false b k rest e = finds b k rest e
 
 -- No test finds a cause.
 abbrev pub Clear : List (Bool × ℕ) → Type 0

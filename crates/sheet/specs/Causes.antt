@@ -12,7 +12,7 @@ abbrev pub any_outside : Sheet → List ℕ → Bool
 any_outside sheet [] = false
 any_outside sheet (s ∷ ss) = outside sheet s || any_outside sheet ss
 
--- Each of the numbers is a state of the sheet.
+-- Whether it is no state, asked of each number in turn.
 abbrev pub number_tests : Sheet → List ℕ → List (Bool × ℕ)
 number_tests sheet [] = []
 number_tests sheet (s ∷ ss) = (outside sheet s, 7) ∷ number_tests sheet ss
@@ -61,7 +61,7 @@ reason_tests n p s t = page_tests n p (s ∷ t ∷ []) ++ record_tests n p s t
 abbrev pub step_tests : {L : Type 0} → Meaning L → List ℕ → ℕ → ℕ → ℕ → List (Bool × ℕ)
 step_tests m pairs s t u = (not (stands (states m) pairs s t), 10) ∷ (not (m.step s u), 11) ∷ (not (answered m pairs s u t), 11) ∷ []
 
--- What is tested before the step: a walk has a place for each state.
+-- What an answer tests before its step: also that there is a place for each state of a walk.
 abbrev pub walk_tests : ℕ → Sheet → List ℕ → ℕ → List ℕ → List (Bool × ℕ)
 walk_tests n sheet pairs room numbers = (short_pairs sheet pairs, 6) ∷ (nat_lt room sheet.count, 6) ∷ own_tests n sheet pairs numbers ++ (not sheet.settled, 9) ∷ []
 
