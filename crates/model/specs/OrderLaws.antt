@@ -1,7 +1,6 @@
 -- Each order keeps the two laws, whatever stands below it: proofs that the traits' members name. Assumes nothing.
 use Rattle.std.specs.Prelude.{ℕ, zero, suc, Bool, true, false, not, ◌&&◌, ◌||◌, T, ℤ, ◌≤ℤ◌, int_le}
-use Rattle.std.proofs.Common.{arith}
-use Rattle.std.specs.Int.Signed.{le_z_yes, ≤ℤ_refl}
+use Rattle.std.proofs.Common.{arith, rules}
 use Rattle.std.proofs.lemmas.Int.{ints}
 use Rattle.model.specs.declared.flags.FlagSet.{FlagSet}
 use Rattle.model.specs.Orders.{Preorder, has, within, flags_at_most, flag_count, band_at_most, turned_at_most, exact_at_most, both_at_most}
@@ -46,11 +45,8 @@ flags_lawful = record { reflexive = within_self flag_count; transitive = within_
 -- A lawful order on what two functions take out of a label is lawful on the labels.
 pub pulled_lawful : {J K L : Type 0} (f : L → J) (g : L → K) {one : J → J → Bool} {other : K → K → Bool} → Preorder one → Preorder other → Preorder (λ (a b : L). one (f a) (f b) && other (g a) (g b))
 pulled_lawful f g p q = record {
-  reflexive = λ a. both_hold _ _ (p.reflexive (f a)) (q.reflexive (g a));
-  transitive = λ a b c x y.
-      both_hold _ _
-      (p.transitive (f a) (f b) (f c) (first_holds _ _ x) (first_holds _ _ y))
-      (q.transitive (g a) (g b) (g c) (second_holds _ _ x) (second_holds _ _ y));
+  reflexive = λ a. grind (arith, p.reflexive (f a), q.reflexive (g a));
+  transitive = λ a b c x y. grind (arith, p.transitive (f a) (f b) (f c), q.transitive (g a) (g b) (g c));
 }
 
 pub turned_lawful : {L : Type 0} {at_most : L → L → Bool} → Preorder at_most → Preorder (turned_at_most at_most)
@@ -66,10 +62,7 @@ le_z_through : (a b c : ℤ) → a ≤ℤ b → b ≤ℤ c → a ≤ℤ c
 le_z_through a b c p q = omega (arith, ints)
 
 le_z_lawful : Preorder int_le
-le_z_lawful = record {
-  reflexive = λ a. (≤ℤ_refl a).le;
-  transitive = λ a b c p q. (le_z_through a b c (le_z_yes p) (le_z_yes q)).le;
-}
+le_z_lawful = record { reflexive = λ a. search (rules, ints); transitive = λ a b c p q. search (rules, ints) }
 
 pub band_lawful : Preorder band_at_most
 band_lawful = pulled_lawful (λ a. a.low) (λ a. a.high) le_z_lawful (turned_lawful le_z_lawful)

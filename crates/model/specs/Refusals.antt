@@ -1,5 +1,5 @@
--- Refusals: the number of each cause, and what a call that checks first answers. Assumes nothing.
-use Rattle.std.specs.Prelude.{◌≡◌, ℕ, Bool, cond, List, [], ◌∷◌, Some, None, Ok, Err, Option, Result}
+-- Refusals: the number and the words of each cause, and what a call that checks first answers. Assumes nothing.
+use Rattle.std.specs.Prelude.{◌≡◌, ℕ, Bool, cond, List, [], ◌∷◌, Some, None, Ok, Err, Option, Result, codes}
 use Rattle.model.specs.declared.refusal.Refusal.{Refusal}
 use Rattle.model.specs.declared.refusal.Refusal.TheVariants.{NoStates, ShortMemory, NoSuchState, OtherSheet, NotSettled, OtherPair, NoSuchStep, LineNotEarlier}
 
@@ -12,6 +12,17 @@ number_of NotSettled = 9
 number_of OtherPair = 10
 number_of NoSuchStep = 11
 number_of LineNotEarlier = 12
+
+-- What a refusal is printed as.
+abbrev pub words_of : Refusal → List ℕ
+words_of NoStates = codes "no states"
+words_of ShortMemory = codes "memory too short"
+words_of NoSuchState = codes "no such state"
+words_of OtherSheet = codes "not a sheet of this machine"
+words_of NotSettled = codes "sheet not settled"
+words_of OtherPair = codes "pair struck where it should stand, or the other way round"
+words_of NoSuchStep = codes "no such step, or no walk that answers it"
+words_of LineNotEarlier = codes "line names a line that is not earlier"
 
 -- The answer is a refusal with this number.
 abbrev pub Refused : {A : Type 0} → ℕ → Result A Refusal → Type 0

@@ -6,14 +6,14 @@ ghost use Rattle.model.specs.OrderLaws.{band_lawful};
 use crate::order::Order;
 
 /// The numbers from `low` to `high`. A low above its high is compared as any other.
-#[derive(Clone, Copy)]
+#[derive(Clone, Copy, PartialEq, Eq, Debug)]
 pub struct Span {
     pub low: i16,
     pub high: i16,
 }
 
 /// The order by bands: a label is at most those that lie inside it, so the wider is the lesser.
-#[derive(Clone, Copy)]
+#[derive(Clone, Copy, PartialEq, Eq, Debug)]
 pub struct Band {}
 
 impl Order for Band {

@@ -1,6 +1,6 @@
 //! Two machines as one.
-ghost use Rattle.std.specs.Prelude.{◌≡◌};
-ghost use Rattle.model.specs.Machines.{states, label_of, beside_meaning};
+ghost use Rattle.std.specs.Prelude.{◌≡◌, ◌+◌, cond, nat_le, Some, None};
+ghost use Rattle.model.specs.Machines.{state_bound, states, label_of, beside_meaning};
 ghost use Rattle.model.specs.MachineLaws.{beside_bounded};
 
 use crate::machine::{Machine, STATE_BOUND};
@@ -13,6 +13,19 @@ pub struct Beside<A, B> {
     pub right: B,
 }
 
+impl<A: Machine, B: Machine<Label = A::Label>> Beside<A, B> {
+    /// The left's count and the right's, where they fit within the bound together.
+    fn counts(&self) -> Option<(usize, usize)>
+        ensures { let left = states (A.Machine.meaning self.now.left) in
+            let right = states (B.Machine.meaning self.now.right) in
+            result ≡ cond (nat_le (left + right) state_bound) (Some (left, right)) None }
+    {
+        let left = self.left.count();
+        let right = self.right.count();
+        (left + right <= STATE_BOUND).then_some((left, right))
+    }
+}
+
 impl<A: Machine, B: Machine<Label = A::Label>> Machine for Beside<A, B> {
     type Label = A::Label;
 
@@ -23,33 +36,29 @@ impl<A: Machine, B: Machine<Label = A::Label>> Machine for Beside<A, B> {
     fn count(&self) -> usize
         ensures { result ≡ states (beside_meaning (A.Machine.meaning self.now.left) (B.Machine.meaning self.now.right)) }
     {
-        let n = self.left.count() + self.right.count();
-        if n <= STATE_BOUND { n } else { 0 }
+        self.counts().map_or(0, |(left, right)| left + right)
     }
 
     fn label(&self, s: usize) -> Option<A::Label>
         ensures { result ≡ label_of (beside_meaning (A.Machine.meaning self.now.left) (B.Machine.meaning self.now.right)) s }
     {
-        let n = self.left.count();
-        if n + self.right.count() > STATE_BOUND {
-            None
-        } else if s < n {
+        let (left, _) = self.counts()?;
+        if s < left {
             self.left.label(s)
         } else {
-            self.right.label(s - n)
+            self.right.label(s - left)
         }
     }
 
     fn has_step(&self, s: usize, t: usize) -> bool
         ensures { result ≡ (beside_meaning (A.Machine.meaning self.now.left) (B.Machine.meaning self.now.right)).step s t }
     {
-        let n = self.left.count();
-        if n + self.right.count() > STATE_BOUND {
-            false
-        } else if s < n {
-            self.left.has_step(s, t)
-        } else {
-            t >= n && self.right.has_step(s - n, t - n)
-        }
+        self.counts().is_some_and(|(left, _)| {
+            if s < left {
+                self.left.has_step(s, t)
+            } else {
+                t >= left && self.right.has_step(s - left, t - left)
+            }
+        })
     }
 }

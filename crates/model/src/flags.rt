@@ -6,13 +6,14 @@ ghost use Rattle.model.specs.OrderLaws.{flags_lawful};
 use crate::order::Order;
 
 /// A set of 32 flags: flag i is in it where bit i is set.
-#[derive(Clone, Copy)]
+#[derive(Clone, Copy, PartialEq, Eq, Debug)]
 pub struct FlagSet {
     pub bits: u32,
 }
 
 impl FlagSet {
     /// Whether every flag of this set is in `other`.
+    #[tactic(auto, using(crate::proofs::Masks::masked, crate::proofs::Masks::mask_means))]
     pub fn is_within(self, other: FlagSet) -> bool
         ensures test { result ≡ flags_at_most self other }
         ensures means { Decides result (Within self other) }
@@ -22,7 +23,7 @@ impl FlagSet {
 }
 
 /// The order by flags: a label is at most those that have all its flags.
-#[derive(Clone, Copy)]
+#[derive(Clone, Copy, PartialEq, Eq, Debug)]
 pub struct Flags {}
 
 impl Order for Flags {

@@ -6,7 +6,7 @@ ghost use Rattle.model.specs.OrderLaws.{turned_lawful, exact_lawful, both_lawful
 use crate::order::Order;
 
 /// The order below with its sides exchanged.
-#[derive(Clone, Copy)]
+#[derive(Clone, Copy, PartialEq, Eq, Debug)]
 pub struct Turned<O> {
     pub inner: O,
 }
@@ -26,7 +26,7 @@ impl<O: Order> Order for Turned<O> {
 }
 
 /// The order below, asked both ways.
-#[derive(Clone, Copy)]
+#[derive(Clone, Copy, PartialEq, Eq, Debug)]
 pub struct Exact<O> {
     pub inner: O,
 }
@@ -46,7 +46,7 @@ impl<O: Order> Order for Exact<O> {
 }
 
 /// Two orders on pairs of labels: both must agree.
-#[derive(Clone, Copy)]
+#[derive(Clone, Copy, PartialEq, Eq, Debug)]
 pub struct Both<A, B> {
     pub first: A,
     pub second: B,

@@ -4,7 +4,6 @@
 pub mod band;
 pub mod beside;
 pub mod flags;
-mod labels;
 pub mod layers;
 pub mod machine;
 pub mod order;

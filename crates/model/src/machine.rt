@@ -5,7 +5,8 @@ ghost use Rattle.model.specs.Machines.{Meaning, Bounded, states, label_of};
 /// The most states that a machine may have.
 pub const STATE_BOUND: usize = 64;
 
-/// A state's number as memory holds it, in walks and in strike records.
+/// A state's number as memory holds it, in walks and in strike records. Numbers of states are cast to it (`as`), which is
+/// proved to lose nothing; `try_from` would answer an error that never comes.
 pub type State = u8;
 
 /// A machine, by its answers. Its states are the numbers below its count.

@@ -3,10 +3,9 @@ ghost use Rattle.std.specs.Prelude.{◌≡◌, ◌*◌, ◌≤◌, length};
 ghost use Rattle.model.specs.Machines.{state_bound, states, label_of, tabled, table_fits, table_meaning};
 ghost use Rattle.model.specs.MachineLaws.{tabled_bounded};
 
-use crate::labels::label_at;
 use crate::machine::{Machine, STATE_BOUND};
 
-/// n labels and n×n bytes, borrowed: a step from s to t where the byte at s×n+t is not zero.
+/// n labels and n×n bytes, borrowed, as they lie in the memory that is lent: a step from s to t where the byte at s×n+t is not zero.
 #[derive(Drop)]
 pub struct Table<'a, L> {
     labels: &'a [L],
@@ -55,7 +54,7 @@ impl<'a, L: Copy> Machine for Table<'a, L> {
     fn label(&self, s: usize) -> Option<L>
         ensures { result ≡ label_of (tabled self.now.labels.now self.now.steps.now) s }
     {
-        label_at(self.labels, s)
+        self.labels.get(s).copied()
     }
 
     fn has_step(&self, s: usize, t: usize) -> bool

@@ -3,10 +3,10 @@ ghost use Rattle.std.specs.Prelude.{◌≡◌, ◌≤◌, length};
 ghost use Rattle.model.specs.Machines.{state_bound, states, label_of, traced, trace_meaning};
 ghost use Rattle.model.specs.MachineLaws.{traced_bounded};
 
-use crate::labels::label_at;
 use crate::machine::{Machine, STATE_BOUND};
 
-/// A list of labels, borrowed: each state steps to the next, and the last to none.
+/// A list of labels, borrowed: each state steps to the next, and the last to none. Count, label and what does not fit are
+/// answered as by a table, in a line each: a struct of the list for both was tried, and is 35 lines longer.
 #[derive(Drop)]
 pub struct Trace<'a, L> {
     labels: &'a [L],
@@ -44,7 +44,7 @@ impl<'a, L: Copy> Machine for Trace<'a, L> {
     fn label(&self, s: usize) -> Option<L>
         ensures { result ≡ label_of (traced self.now.labels.now) s }
     {
-        label_at(self.labels, s)
+        self.labels.get(s).copied()
     }
 
     fn has_step(&self, s: usize, t: usize) -> bool
