@@ -1,7 +1,7 @@
 -- The test for walks tells whether there is one. Assumes nothing.
-use Rattle.std.proofs.Common.{◌≡◌, ℕ, zero, suc, ◌+◌, ◌<◌, ◌≤◌, Bool, true, false, cond, ◌&&◌, T, ◌⊎◌, Decides, sym, refl, subst, inl, inr, ⊎_elim, arith}
-use Rattle.std.proofs.lemmas.Bool.{false≢true, and_parts, and_from, or_cases, or_left, or_right, cases_eq}
-use Rattle.std.proofs.lemmas.Bool.Decides.{Decides-below_or}
+use Rattle.std.proofs.Common.{◌≡◌, ℕ, zero, suc, ◌+◌, ◌<◌, ◌≤◌, Bool, true, cond, ◌&&◌, T, ◌⊎◌, Decides, refl, inl, inr, ⊎_elim, arith}
+use Rattle.std.proofs.lemmas.Bool.{and_parts, and_from, or_cases, or_left, or_right, cases_eq}
+use Rattle.std.proofs.lemmas.Bool.Decides.{Decides-below_or, nat_tests}
 use Rattle.model.specs.Machines.{Meaning, Bounded, states, Step}
 use Rattle.model.proofs.Tests.{holds_true, true_holds}
 use Rattle.until.specs.Walks.{Walk, stop, go}
@@ -15,41 +15,23 @@ abbrev tally : (ℕ → Bool) → ℕ → ℕ
 tally p zero = 0
 tally p (suc n) = cond (p n) 1 0 + tally p n
 
-one_le : (a b : Bool) → (a ≡ true → b ≡ true) → cond a 1 0 ≤ cond b 1 0
-one_le true true h = omega arith
-one_le true false h = absurd (false≢true (h refl))
-one_le false true h = omega arith
-one_le false false h = omega arith
-
 tally_le : (p : ℕ → Bool) (n : ℕ) → tally p n ≤ n
 tally_le p zero = omega arith
-tally_le p (suc n) = omega (arith, one_le (p n) true (λ _. refl), tally_le p n)
+tally_le p (suc n) = grind (arith, nat_tests, tally_le p n)
 
 module _ (p q : ℕ → Bool) (f : (i : ℕ) → p i ≡ true → q i ≡ true) where
   tally_more : (n : ℕ) → tally p n ≤ tally q n
   tally_more zero = omega arith
-  tally_more (suc n) = omega (arith, one_le (p n) (q n) (f n), tally_more n)
-
-  back : (a b : Bool) (x y : ℕ) → x ≤ y → cond a 1 0 + x ≡ cond b 1 0 + y → b ≡ true → a ≡ true
-  back true b x y l e h = refl
-  back false true x y l e h = absurd (omega arith)
-  back false false x y l e h = h
+  tally_more (suc n) = grind (arith, nat_tests, tally_more n, f n)
 
   -- where as many pass, the same pass
   tally_same : (n : ℕ) → tally p n ≡ tally q n → (i : ℕ) → i < n → q i ≡ true → p i ≡ true
   tally_same zero e i l h = absurd (omega arith)
-  tally_same (suc n) e i l h =
-      ⊎_elim
-      (λ x. subst (λ v. p v ≡ true) (sym x) (back (p n) (q n) (tally p n) (tally q n) (tally_more n) e (subst (λ v. q v ≡ true) x h)))
-      (λ ne. tally_same n (omega (arith, one_le (p n) (q n) (f n), tally_more n)) i (omega arith) h)
-      (cases_eq i n)
+  tally_same (suc n) e i l h = grind (arith, nat_tests, tally_more n, f n, tally_same n)
 
 all_pass : (p : ℕ → Bool) (n : ℕ) → n ≤ tally p n → (t : ℕ) → t < n → p t ≡ true
-all_pass p n le t l = tally_same p (λ _. true) (λ i h. refl) n (omega (arith, tally_le p n, full n)) t l refl
-  where
-    full : (i : ℕ) → tally (λ _. true) i ≡ i
-    full zero = refl
-    full (suc i) = omega (arith, full i)
+all_pass p zero le t l = absurd (omega arith)
+all_pass p (suc n) le t l = grind (arith, nat_tests, tally_le p n, all_pass p n)
 
 module _ {L : Type 0} (m : Meaning L) (ok goal : ℕ → Bool) where
   -- a step that passes on to where X holds

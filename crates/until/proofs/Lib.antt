@@ -1,4 +1,5 @@
 pub mod Walks
+pub mod RowBytes
 pub mod Decided
 pub mod Breadth
 pub mod Turns

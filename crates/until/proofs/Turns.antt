@@ -1,170 +1,140 @@
--- The same over the arrays themselves: the invariants of the search's two loops, and their steps. Assumes nothing.
-use Rattle.std.proofs.Common.{◌≡◌, ℕ, ◌+◌, ◌<◌, ◌≤◌, List, length, get_or, take, set, replicate, sum_by, sym, refl, ap, ◌∙◌, subst, ⊎_elim, arith}
+-- The same over the array of visits and the queue: the invariants of the two loops of the search, and their steps. Assumes nothing.
+use Rattle.std.proofs.Common.{◌≡◌, ℕ, zero, suc, ◌+◌, ◌<◌, ◌≤◌, List, [], ◌∷◌, ◌++◌, Some, None, Option, IsSome, IsNone, length, get_or, take, set, replicate, count_by, sym, refl, ap, ◌∙◌, subst, cond, ⊎_elim, arith}
 use lib.Seq.{take-set-lt}
-use Rattle.std.proofs.lemmas.Bool.{cases_eq, cases_lt}
-use Rattle.std.proofs.lemmas.List.Sums.{sum_by-take-le}
-use Rattle.std.proofs.lemmas.List.{length-take, get_or-take, length-set, get_or-set_same, get_or-set_other, get_or-replicate, get_or_past}
+use Rattle.std.specs.Option.{is_some}
+use Rattle.std.proofs.lemmas.Bool.{cases_eq}
+use Rattle.std.proofs.lemmas.List.Sums.{sum_by-take-le, sum_by-set, count_by-le-length}
+use Rattle.std.proofs.lemmas.List.{length-take, get_or-take, length-set, get_or-set_same, get_or-set_other, get_or_push, get_or_append_left, length_push}
 use Rattle.model.specs.Machines.{state_bound}
-use Rattle.until.proofs.Breadth.{taken, taken_all, taken_set, Going, going_start, going_next, going_push}
+use Rattle.until.specs.declared.search.Visit.{Visit}
+use Rattle.until.specs.Explored.{steps_of, visit}
+use Rattle.until.proofs.Breadth.{Going, going_start, going_next, going_push}
 
 abbrev pub at : List ℕ → ℕ → ℕ
 at xs i = get_or xs i 0
 
--- Between turns of the queue. As many states are reached as are queued, so the queue has room for one that is not.
-pub record Outer (n : ℕ) (S : ℕ → ℕ → Type 0) (ok : ℕ → Type 0) (start : ℕ) (dist from order : List ℕ) (head tail : ℕ) : Type 0 where
-  pub dist_long : length dist ≡ state_bound
-  pub from_long : length from ≡ state_bound
-  pub order_long : length order ≡ state_bound
-  pub counted : sum_by taken (take n dist) ≡ tail
-  pub ahead : head ≤ tail
-  pub most : (u : ℕ) → at dist u ≤ state_bound
-  pub going : Going n S ok start (at dist) (at from) (at order) head tail
+-- Between turns of the queue. As many states are visited as are queued, so the queue has room for one that is not.
+pub record Outer (n : ℕ) (S : ℕ → ℕ → Type 0) (ok : ℕ → Type 0) (start : ℕ) (found : List (Option Visit)) (order : List ℕ) (head : ℕ) : Type 0 where
+  pub bounded : n ≤ state_bound
+  pub found_long : length found ≡ state_bound
+  pub counted : count_by is_some (take n found) ≡ length order
+  pub ahead : head ≤ length order
+  pub going : Going n S ok start (visit found) (at order) head (length order)
 
--- Within a turn: s is the first of the queue, and its steps to the states below t are followed.
-pub record Inner (n : ℕ) (S : ℕ → ℕ → Type 0) (ok : ℕ → Type 0) (start : ℕ) (head s d : ℕ) (dist from order : List ℕ) (tail t : ℕ) : Type 0 where
-  pub outer : Outer n S ok start dist from order head tail
-  pub some : head < tail
-  pub first : at order head ≡ s
-  pub far : at dist s + 1 ≡ d
-  pub seen : (u : ℕ) → u < t → S s u → (at dist u < state_bound) × (at dist u ≤ d)
+-- Within a turn: the first of the queue is the state before `next`, and its steps to the states below t are followed.
+pub record Inner (n : ℕ) (S : ℕ → ℕ → Type 0) (ok : ℕ → Type 0) (start head : ℕ) (next : Visit) (found : List (Option Visit)) (order : List ℕ) (t : ℕ) : Type 0 where
+  pub outer : Outer n S ok start found order head
+  pub some : head < length order
+  pub first : at order head ≡ next.before
+  pub far : next.steps ≡ steps_of (visit found next.before) + 1
+  pub seen : (u : ℕ) → u < t → S next.before u → IsSome (visit found u) × (steps_of (visit found u) ≤ next.steps)
 
--- one more of the first n is reached
-taken_more : (n : ℕ) (xs : List ℕ) (t v : ℕ) → n ≤ length xs → t < n → at xs t ≡ state_bound → v < state_bound → sum_by taken (take n (set xs t v)) ≡ sum_by taken (take n xs) + 1
-taken_more n xs t v long l e h =
+-- one more of the first n is visited
+counted_more : (n : ℕ) (xs : List (Option Visit)) (t : ℕ) (v : Visit) → n ≤ length xs → t < n → IsNone (visit xs t) → count_by is_some (take n (set xs t (Some v))) ≡ count_by is_some (take n xs) + 1
+counted_more n xs t v long l fresh =
     let low : t < length (take n xs) = omega (arith, length-take n xs) in
-    ap (sum_by taken) (take-set-lt n xs t v l) ∙ taken_set (take n xs) t v low (get_or-take n xs t 0 l ∙ e) h
+    let was : cond {A = ℕ} (is_some (get_or (take n xs) t None)) 1 0 ≡ 0 = rw (get_or-take n xs t None l, fresh) refl in
+    ap (count_by is_some) (take-set-lt n xs t (Some v) l) ∙ omega (arith, sum_by-set (λ o. cond {A = ℕ} (is_some o) 1 0) (take n xs) t (Some v) None low, was)
 
-most_set : (xs : List ℕ) (t v u : ℕ) → t < length xs → v ≤ state_bound → at xs u ≤ state_bound → at (set xs t v) u ≤ state_bound
-most_set xs t v u l h k = ⊎_elim
-    (λ e. omega (arith, ap (at (set xs t v)) e, get_or-set_same xs t v 0 l))
-    (λ ne. omega (arith, get_or-set_other xs t u v 0 ne))
-    (cases_eq u t)
+-- at first none is visited
+pub none_visited : (k u : ℕ) → IsNone (visit (replicate k None) u)
+none_visited zero u = refl
+none_visited (suc k) zero = refl
+none_visited (suc k) (suc u) = none_visited k u
 
-replicate_most : (u : ℕ) → at (replicate state_bound state_bound) u ≤ state_bound
-replicate_most u = ⊎_elim
-    (λ l. omega (arith, get_or-replicate state_bound u state_bound 0 l))
-    (λ l. omega (arith, get_or_past (replicate state_bound state_bound) u 0 l))
-    (cases_lt u state_bound)
-
-pub outer_start : {n : ℕ} {S : ℕ → ℕ → Type 0} {ok : ℕ → Type 0} {start : ℕ} → n ≤ state_bound → start < n
-    → Outer n S ok start (set (replicate state_bound state_bound) start 0) (replicate state_bound 0) (set (replicate state_bound 0) 0 start) 0 1
-outer_start {n = n} {start = start} bounded within =
-    let fresh = replicate state_bound state_bound in
+pub outer_start : {n : ℕ} {S : ℕ → ℕ → Type 0} {ok : ℕ → Type 0} {start : ℕ} (v : Visit) (order : List ℕ) → n ≤ state_bound → start < n → v.steps ≡ 0 → order ≡ start ∷ []
+    → Outer n S ok start (set (replicate state_bound None) start (Some v)) order 0
+outer_start {n = n} {start = start} v order bounded within no_steps alone =
+    let fresh : List (Option Visit) = replicate state_bound None in
     let low : start < state_bound = omega arith in
-    let none_taken : sum_by taken (take n fresh) ≡ 0 = omega (arith, sum_by-take-le taken fresh n) in
-    record {
-      dist_long = length-set fresh start 0;
-      from_long = refl;
-      order_long = refl;
-      counted = taken_more n fresh start 0 bounded within (get_or-replicate state_bound start state_bound 0 low) (omega arith) ∙ ap (λ k. k + 1) none_taken;
+    let none : (u : ℕ) → IsNone (visit fresh u) = none_visited state_bound in
+    let uncounted : count_by is_some (take n fresh) ≡ 0 = omega (arith, sum_by-take-le (λ o. cond (is_some o) 1 0) fresh n) in
+    rw alone record {
+      bounded = bounded;
+      found_long = length-set fresh start (Some v);
+      counted = counted_more n fresh start v bounded within (none start) ∙ ap (λ k. k + 1) uncounted;
       ahead = omega arith;
-      most = λ u. most_set fresh start 0 u low (omega arith) (replicate_most u);
-      going = going_start bounded within (get_or-set_same fresh start 0 0 low)
-          (λ u l ne. get_or-set_other fresh start u 0 0 ne ∙ get_or-replicate state_bound u state_bound 0 (omega arith))
+      going = going_start within (get_or-set_same fresh start (Some v) None low) no_steps
+          (λ u ne. ap is_some (get_or-set_other fresh start u (Some v) None ne) ∙ none u)
           refl;
     }
 
-module _ {n : ℕ} {S : ℕ → ℕ → Type 0} {ok : ℕ → Type 0} {start : ℕ} {dist from order : List ℕ} {head tail : ℕ}
-    (out : Outer n S ok start dist from order head tail) where
-  -- there is room while a state is not yet reached
-  pub room_left : (t : ℕ) → t < n → at dist t ≡ state_bound → tail < n
-  room_left t l e =
+module _ {n : ℕ} {S : ℕ → ℕ → Type 0} {ok : ℕ → Type 0} {start : ℕ} {found : List (Option Visit)} {order : List ℕ} {head : ℕ}
+    (out : Outer n S ok start found order head) where
+  -- there is room while a state is not yet visited
+  pub room_left : (t : ℕ) → t < n → IsNone (visit found t) → length order < n
+  room_left t l fresh =
+      let v : Visit = record { steps = 0; before = 0 } in
       omega (
         arith,
-        taken_more n dist t 0 (omega (arith, out.dist_long, out.going.bounded)) l e (omega arith),
-        taken_all (take n (set dist t 0)),
-        length-take n (set dist t 0),
+        counted_more n found t v (omega (arith, out.found_long, out.bounded)) l fresh,
+        count_by-le-length is_some (take n (set found t (Some v))),
+        length-take n (set found t (Some v)),
         out.counted,
       )
 
-  -- the first of the queue may not be gone on from
-  pub outer_skip : (s : ℕ) → head < tail → at order head ≡ s → (ok s → ⊥) → Outer n S ok start dist from order (head + 1) tail
-  outer_skip s some e no_way = record {
-    dist_long = out.dist_long;
-    from_long = out.from_long;
-    order_long = out.order_long;
-    counted = out.counted;
-    ahead = omega arith;
-    most = out.most;
-    going = going_next out.going some (λ o. absurd (no_way (subst ok e o)));
+  -- the first of the queue is a state that is visited
+  pub outer_first : (s : ℕ) → head < length order → at order head ≡ s → (s < state_bound) × IsSome (visit found s)
+  outer_first s some e = let q = out.going.queued head some in rw (← e) (omega (arith, q.0, out.bounded), q.1)
+
+  -- the first of the queue is done with
+  outer_next : head < length order
+      → (ok (at order head) → (t : ℕ) → S (at order head) t → IsSome (visit found t) × (steps_of (visit found t) ≤ steps_of (visit found (at order head)) + 1))
+      → Outer n S ok start found order (head + 1)
+  outer_next some done = record { bounded = out.bounded; found_long = out.found_long; counted = out.counted; ahead = omega arith; going = going_next out.going some done }
+
+  -- it may not be gone on from
+  pub outer_skip : (s : ℕ) → head < length order → at order head ≡ s → (ok s → ⊥) → Outer n S ok start found order (head + 1)
+  outer_skip s some e no_way = outer_next some (λ o. absurd (no_way (subst ok e o)))
+
+module _ {n : ℕ} {S : ℕ → ℕ → Type 0} {ok : ℕ → Type 0} {start head : ℕ} {next : Visit} {found : List (Option Visit)} {order : List ℕ} {t : ℕ}
+    (inn : Inner n S ok start head next found order t) where
+  -- t is visited already, or the state before has no step to it
+  pub inner_skip : (S next.before t → IsSome (visit found t)) → t < n → Inner n S ok start head next found order (t + 1)
+  inner_skip old within = record {
+    outer = inn.outer;
+    some = inn.some;
+    first = inn.first;
+    far = inn.far;
+    seen = λ u h st. ⊎_elim
+        (λ e. let there : IsSome (visit found u) = rw e (old (subst (S next.before) e st)) in
+        (there, omega (arith, inn.outer.going.near u there inn.some, ap (λ v. steps_of (visit found v)) inn.first, inn.far)))
+        (λ ne. inn.seen u (omega arith) st)
+        (cases_eq u t);
   }
 
-module _ {n : ℕ} {S : ℕ → ℕ → Type 0} {ok : ℕ → Type 0} {start head s d : ℕ} {dist from order : List ℕ} {tail t : ℕ}
-    (inn : Inner n S ok start head s d dist from order tail t) where
-  -- t is reached already, or s has no step to it
-  pub inner_skip : ((S s t) → at dist t < state_bound) → t < n → Inner n S ok start head s d dist from order tail (t + 1)
-  inner_skip old within =
-      let go = inn.outer.going in
-      record {
-        outer = inn.outer;
-        some = inn.some;
-        first = inn.first;
-        far = inn.far;
-        seen = λ u h st. ⊎_elim
-            (λ e. let low : at dist u < state_bound = subst (λ v. at dist v < state_bound) (sym e) (old (subst (λ v. S s v) e st)) in
-            (low, omega (arith, go.near u (omega arith) low inn.some, ap (at dist) inn.first, inn.far)))
-            (λ ne. inn.seen u (omega arith) st)
-            (cases_eq u t);
-      }
-
-  pub inner_push : n ≤ state_bound → t < n → at dist t ≡ state_bound → ok s → S s t
-      → Inner n S ok start head s d (set dist t d) (set from t s) (set order tail t) (tail + 1) (t + 1)
-  inner_push bounded within fresh o st =
+  pub inner_push : t < n → IsNone (visit found t) → ok next.before → S next.before t
+      → Inner n S ok start head next (set found t (Some next)) (order ++ t ∷ []) (t + 1)
+  inner_push within fresh o st =
       let out = inn.outer in
-      let go = out.going in
-      let room : tail < n = room_left out t within fresh in
-      let low : t < length dist = omega (arith, out.dist_long) in
-      let low' : t < length from = omega (arith, out.from_long) in
-      let low'' : tail < length order = omega (arith, out.order_long) in
-      let q = go.queued head inn.some in
-      let e : at dist (at order head) ≡ at dist s = ap (at dist) inn.first in
-      let apart : s ≡ t → ⊥ = λ p. omega (arith, ap (at dist) p, e, q.1, inn.some) in
-      let d_low : d < state_bound = omega (arith, e, q.1, inn.far, inn.some) in
-      let d_here : at (set dist t d) t ≡ d = get_or-set_same dist t d 0 low in
+      let after : List (Option Visit) = set found t (Some next) in
+      let room : length order < n = room_left out t within fresh in
+      let low : t < length found = omega (arith, out.found_long, out.bounded) in
+      let longer = length_push order t in
+      let here : visit after t ≡ Some next = get_or-set_same found t (Some next) None low in
+      let other : (u : ℕ) → (u ≡ t → ⊥) → visit after u ≡ visit found u = λ u ne. get_or-set_other found t u (Some next) None ne in
+      let from : IsSome (visit found next.before) = rw inn.first at (out.going.queued head inn.some).1 in
       record {
         outer = record {
-          dist_long = length-set dist t d ∙ out.dist_long;
-          from_long = length-set from t s ∙ out.from_long;
-          order_long = length-set order tail t ∙ out.order_long;
-          counted = taken_more n dist t d (omega (arith, out.dist_long)) within fresh d_low ∙ ap (λ k. k + 1) out.counted;
+          bounded = out.bounded;
+          found_long = length-set found t (Some next) ∙ out.found_long;
+          counted = counted_more n found t next (omega (arith, out.found_long, out.bounded)) within fresh ∙ ap (λ k. k + 1) out.counted ∙ sym longer;
           ahead = omega (arith, inn.some);
-          most = λ u. most_set dist t d u low (omega arith) (out.most u);
-          going = going_push go inn.some within fresh (omega arith) (subst ok (sym inn.first) o) (subst (λ v. S v t) (sym inn.first) st)
-              (omega (arith, d_here, e, inn.far)) (λ u ne. get_or-set_other dist t u d 0 ne)
-              (get_or-set_same from t s 0 low' ∙ sym inn.first) (λ u ne. get_or-set_other from t u s 0 ne)
-              (get_or-set_same order tail t 0 low'') (λ i ne. get_or-set_other order tail i t 0 ne);
+          going = rw longer (going_push out.going inn.some within fresh (omega arith) inn.first inn.far o st here other
+              (get_or_push order t 0 (length order) refl) (λ i h. get_or_append_left order (t ∷ []) 0 i h));
         };
         some = omega (arith, inn.some);
-        first = get_or-set_other order tail head t 0 (omega (arith, inn.some)) ∙ inn.first;
-        far = ap (λ k. k + 1) (get_or-set_other dist t s d 0 apart) ∙ inn.far;
+        first = get_or_append_left order (t ∷ []) 0 head inn.some ∙ inn.first;
+        far = rw (other next.before (λ e. cc)) inn.far;
         seen = λ u h st'. ⊎_elim
-            (λ p. let v : at (set dist t d) u ≡ d = ap (at (set dist t d)) p ∙ d_here in (omega arith, omega arith))
-            (λ ne. let r = inn.seen u (omega arith) st' in omega (arith, r.0, r.1, get_or-set_other dist t u d 0 ne))
+            (λ (e : u ≡ t). rw (e, here) (refl, omega arith))
+            (λ ne. rw (other u ne) (inn.seen u (omega arith) st'))
             (cases_eq u t);
       }
 
   -- every state has been tried
-  pub inner_end : n ≤ t → ((a b : ℕ) → S a b → b < n) → Outer n S ok start dist from order (head + 1) tail
-  inner_end all inside =
-      let out = inn.outer in
-      record {
-        dist_long = out.dist_long;
-        from_long = out.from_long;
-        order_long = out.order_long;
-        counted = out.counted;
-        ahead = omega (arith, inn.some);
-        most = out.most;
-        going = going_next out.going inn.some (λ o u st.
-            let st' : S s u = subst (λ v. S v u) inn.first st in
-            let r = inn.seen u (omega (arith, inside s u st')) st' in
-            omega (arith, r.0, r.1, inn.far, ap (at dist) inn.first));
-      }
-
--- the same under equal arrays
-module _ {n : ℕ} {S : ℕ → ℕ → Type 0} {ok : ℕ → Type 0} {start : ℕ} {dist dist' from from' order order' : List ℕ} {tail tail' : ℕ}
-    (a : dist ≡ dist') (b : from ≡ from') (c : order ≡ order') (e : tail ≡ tail') where
-  pub outer_at : {head : ℕ} → Outer n S ok start dist' from' order' head tail' → Outer n S ok start dist from order head tail
-  outer_at h = rw (a, b, c, e) h
-
-  pub inner_at : {head s d t : ℕ} → Inner n S ok start head s d dist' from' order' tail' t → Inner n S ok start head s d dist from order tail t
-  inner_at h = rw (a, b, c, e) h
+  pub inner_end : n ≤ t → ((a b : ℕ) → S a b → b < n) → Outer n S ok start found order (head + 1)
+  inner_end all inside = outer_next inn.outer inn.some (λ o u st.
+      let st' : S next.before u = subst (λ v. S v u) inn.first st in
+      let r = inn.seen u (omega (arith, inside next.before u st')) st' in
+      (r.0, omega (arith, r.1, inn.far, ap (λ v. steps_of (visit found v)) inn.first)))

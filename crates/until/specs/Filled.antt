@@ -1,11 +1,11 @@
 -- How the row of one line is filled from the rows of the lines before it. Assumes nothing.
-use Rattle.std.specs.Prelude.{◌≡◌, ℕ, ◌+◌, ◌*◌, ◌<◌, Bool, T, List, length, take, drop, slice_index, slice_index_or}
+use Rattle.std.specs.Prelude.{◌≡◌, ℕ, ◌+◌, ◌*◌, ◌<◌, Bool, T, List, take, drop, slice_index}
 use Rattle.model.specs.Machines.{Meaning, states, label_of}
 use Rattle.until.specs.declared.formula.Line.{Line}
 use Rattle.until.specs.declared.formula.Line.TheVariants.{True, At, And, Until}
 use Rattle.until.specs.Rows.{row_of}
 use Rattle.until.specs.Searches.{Marked, WalkOver}
-use Rattle.until.specs.Formulas.{Formula, truth, meets, Holds}
+use Rattle.until.specs.Formulas.{meets}
 use Rattle.until.specs.Lines.{Says}
 
 module _ {L : Type 0} (at_most : L → L → Bool) (m : Meaning L) where
@@ -21,7 +21,3 @@ module _ {L : Type 0} (at_most : L → L → Bool) (m : Meaning L) where
     pub front : take (k * states m) bytes ≡ take (k * states m) before
     pub said : (s : ℕ) → s < states m → Says (slice_index bytes (k * states m + s)) (HoldsBy (take (k * states m) before) line s)
     pub rest : drop (k * states m + states m) bytes ≡ drop (k * states m + states m) before
-
-  -- Row k of the bytes says at which states the formula k holds.
-  abbrev pub Rows : List (Formula L) → List ℕ → Type 0
-  Rows fs bytes = (k s : ℕ) → k < length fs → s < states m → Says (slice_index bytes (k * states m + s)) (Holds at_most m (slice_index_or fs k truth) s)

@@ -13,6 +13,10 @@ is_marked row u = not (slice_index row u == 0)
 abbrev pub Marked : List ℕ → ℕ → Type 0
 Marked row u = T (is_marked row u)
 
+-- Some state that the list says yes of is marked.
+abbrev pub Meets : List Bool → List ℕ → Type 0
+Meets ends goal = (u : ℕ) × T (slice_index_or ends u false) × Marked goal u
+
 module _ {L : Type 0} (m : Meaning L) (row : List ℕ) where
   -- A walk from s over marked states to one where Q holds.
   abbrev pub WalkOver : (ℕ → Type 0) → ℕ → Type 0

@@ -1,12 +1,15 @@
 //! Evaluation of formulas, line by line.
-ghost use Rattle.std.specs.Prelude.{◌+◌, ◌*◌, ◌<◌, ◌≤◌, length, Decides};
+//!
+//! The machine and the order are two parameters of these three functions, one of them public: a struct of both would
+//! shorten one call, and lengthen each clause.
+ghost use Rattle.std.specs.Prelude.{◌≡◌, ◌+◌, ◌*◌, ◌<◌, ◌≤◌, length, Decides};
 ghost use Rattle.model.specs.Machines.{states};
 ghost use Rattle.until.specs.Lines.{Evaluates};
 ghost use Rattle.until.specs.Filled.{HoldsBy, Filled};
 
 use crate::formula::{Line, all_name_earlier};
-use crate::rows::row;
-use crate::search::{marked, walk_exists};
+use crate::rows::Rows;
+use crate::search::walk_exists;
 use model::{Machine, Order, Refusal};
 
 /// Whether a line holds at state `s`, by the rows of the lines before it.
@@ -14,21 +17,20 @@ fn holds_at<M: Machine, O: Order<Label = M::Label>>(
     machine: &M,
     order: &O,
     line: &Line<M::Label>,
-    rows: &[u8],
+    rows: Rows,
     s: usize,
 ) -> bool
-    requires { s < states (M.Machine.meaning machine.now) }
-    ensures { Decides result (HoldsBy (O.Order.relation order.now) (M.Machine.meaning machine.now) rows.now line.now s) }
+    requires state { s < states (M.Machine.meaning machine.now) }
+    requires byte_for_each_state { rows.width ≡ states (M.Machine.meaning machine.now) }
+    ensures { Decides result (HoldsBy (O.Order.relation order.now) (M.Machine.meaning machine.now) rows.entry.bytes.now line.now s) }
 {
-    let n = machine.count();
     match line {
         Line::True => true,
-        Line::At(label) => match machine.label(s) {
-            Some(own) => order.at_most(label, &own),
-            None => false,
-        },
-        Line::And(f, g) => marked(row(rows, n, *f), s) && marked(row(rows, n, *g), s),
-        Line::Until(f, g) => walk_exists(machine, row(rows, n, *f), row(rows, n, *g), s),
+        Line::At(label) => machine
+            .label(s)
+            .is_some_and(|own| order.at_most(label, &own)),
+        Line::And(f, g) => rows.is_marked(*f, s) && rows.is_marked(*g, s),
+        Line::Until(f, g) => walk_exists(machine, rows.row(*f), rows.row(*g), s),
     }
 }
 
@@ -38,15 +40,19 @@ fn fill_row<M: Machine, O: Order<Label = M::Label>>(
     order: &O,
     line: &Line<M::Label>,
     k: usize,
-    rows: &mut [u8],
+    bytes: &mut [u8],
 )
-    requires { k * states (M.Machine.meaning machine.now) + states (M.Machine.meaning machine.now) ≤ length rows.old }
-    ensures { Filled (O.Order.relation order.now) (M.Machine.meaning machine.now) line.now k rows.old rows.new }
+    requires { k * states (M.Machine.meaning machine.now) + states (M.Machine.meaning machine.now) ≤ length bytes.old }
+    ensures { Filled (O.Order.relation order.now) (M.Machine.meaning machine.now) line.now k bytes.old bytes.new }
 {
-    let n = machine.count();
-    for s in 0..n {
-        let holds = holds_at(machine, order, line, &rows[0..k * n], s);
-        rows[k * n + s] = u8::from(holds);
+    let width = machine.count();
+    let (before, rest) = bytes.split_at_mut(k * width);
+    let rows = Rows {
+        bytes: before,
+        width,
+    };
+    for (s, byte) in rest[..width].iter_mut().enumerate() {
+        *byte = u8::from(holds_at(machine, order, line, rows, s));
     }
 }
 
@@ -61,11 +67,11 @@ pub fn evaluate<M: Machine, O: Order<Label = M::Label>>(
 ) -> Result<(), Refusal>
     ensures { Evaluates (O.Order.relation order.now) (M.Machine.meaning machine.now) lines.now rows.old result rows.new }
 {
-    let n = machine.count();
-    let Some(size) = lines.len().checked_mul(n) else {
-        return Err(Refusal::ShortMemory);
-    };
-    if rows.len() < size {
+    let fits = lines
+        .len()
+        .checked_mul(machine.count())
+        .is_some_and(|size| size <= rows.len());
+    if !fits {
         return Err(Refusal::ShortMemory);
     }
     if !all_name_earlier(lines) {

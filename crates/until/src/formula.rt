@@ -3,7 +3,7 @@ ghost use Rattle.std.specs.Prelude.{◌≡◌};
 ghost use Rattle.until.specs.Lines.{names_earlier, all_name_earlier};
 
 /// A line of a formula. Lines are numbered from 0, and name others by their numbers.
-#[derive(Clone, Copy)]
+#[derive(Clone, Copy, PartialEq, Eq, Debug)]
 pub enum Line<L> {
     /// Holds everywhere.
     True,
@@ -31,10 +31,8 @@ impl<L> Line<L> {
 pub fn all_name_earlier<L>(lines: &[Line<L>]) -> bool
     ensures { result ≡ all_name_earlier 0 lines.now }
 {
-    for (k, line) in lines.iter().enumerate() {
-        if !line.names_earlier(k) {
-            return false;
-        }
-    }
-    true
+    lines
+        .iter()
+        .enumerate()
+        .all(|(k, line)| line.names_earlier(k))
 }

@@ -9,5 +9,5 @@ pub mod theory;
 
 pub use evaluation::evaluate;
 pub use formula::Line;
-pub use rows::row;
-pub use search::{marked, reached, shortest_walk, walk_exists};
+pub use rows::Rows;
+pub use search::{marked, meets, reached, shortest_walk, walk_exists};

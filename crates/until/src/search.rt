@@ -1,57 +1,64 @@
-//! The one search for walks: breadth first, over any machine and any row of bytes.
-ghost use Rattle.std.specs.Prelude.{◌≡◌, ◌<◌, ◌≤◌, Decides, slice_index};
+//! The one search for walks: breadth first, over any machine and any row of bytes. Arrays of the bound and a vector in
+//! place hold what it keeps, since no call allocates.
+ghost use Rattle.std.specs.Prelude.{◌≡◌, ◌<◌, ◌≤◌, Decides};
 ghost use Rattle.model.specs.Machines.{states, state_bound};
-ghost use Rattle.until.specs.Searches.{is_marked, Marked, WalkFromState, walk_exists, Reached, SearchAnswers};
-ghost use Rattle.until.specs.Explored.{Explores, Chosen};
+ghost use Rattle.until.specs.Searches.{is_marked, Marked, WalkFromState, walk_exists, Reached, Meets, SearchAnswers};
+ghost use Rattle.until.specs.Explored.{visit, Explores, Chosen};
 
+use arrayvec::ArrayVec;
 use model::{Machine, Refusal, STATE_BOUND, State};
+use std::array;
 
-/// The distance of a state that is not reached: no walk to a state needs so many steps.
-const UNREACHED: usize = STATE_BOUND;
-
-/// What the search keeps for each state: the fewest steps to it, and the state before it.
+/// How the search came to a state: the fewest steps to it, and the state before it on a walk of so few.
+/// Before the start stands the start itself.
 #[derive(Clone, Copy)]
-struct Explored {
-    dist: [usize; STATE_BOUND],
-    from: [usize; STATE_BOUND],
+struct Visit {
+    steps: usize,
+    before: usize,
 }
 
 /// Whether the byte of `u` is not zero. A number past the row is not marked.
 pub fn marked(row: &[u8], u: usize) -> bool
     ensures { result ≡ is_marked row.now u }
 {
-    u < row.len() && row[u] != 0
+    row.get(u).is_some_and(|byte| *byte != 0)
 }
 
-/// Searches from a state, and goes on from the marked states only.
-fn explore<M: Machine>(machine: &M, row: &[u8], start: usize) -> Explored
-    requires { start < states (M.Machine.meaning machine.now) }
-    ensures { Explores (M.Machine.meaning machine.now) row.now start result.dist result.from }
+/// Searches from `start`, and goes on from the marked states only. What is not reached has no visit, and
+/// a start that is no state reaches nothing.
+fn explore<M: Machine>(machine: &M, row: &[u8], start: usize) -> [Option<Visit>; STATE_BOUND]
+    ensures { Explores (M.Machine.meaning machine.now) row.now start result }
 {
     let n = machine.count();
-    let mut dist = [UNREACHED; STATE_BOUND];
-    let mut from = [0; STATE_BOUND];
-    let mut queue = [0; STATE_BOUND];
-    dist[start] = 0;
-    queue[0] = start;
+    let mut found = [None; STATE_BOUND];
+    if start >= n {
+        return found;
+    }
+    let mut queue: ArrayVec<usize, STATE_BOUND> = ArrayVec::new();
+    found[start] = Some(Visit {
+        steps: 0,
+        before: start,
+    });
+    queue.push(start);
+    // By its place, since the queue grows while it is read. The states by their numbers, as the machine is asked; they may
+    // be fewer than the places of `found`.
     let mut head = 0;
-    let mut tail = 1;
-    while head < tail {
-        let s = queue[head];
+    while let Some(s) = queue.get(head).copied() {
         if marked(row, s) {
-            let d = dist[s] + 1;
+            let next = Visit {
+                steps: found[s].unwrap().steps + 1,
+                before: s,
+            };
             for t in 0..n {
-                if dist[t] == UNREACHED && machine.has_step(s, t) {
-                    dist[t] = d;
-                    from[t] = s;
-                    queue[tail] = t;
-                    tail += 1;
+                if found[t].is_none() && machine.has_step(s, t) {
+                    found[t] = Some(next);
+                    queue.push(t);
                 }
             }
         }
         head += 1;
     }
-    Explored { dist, from }
+    found
 }
 
 /// The states that a walk from `start` reaches, whose states before the last are all marked in `row`.
@@ -59,15 +66,17 @@ fn explore<M: Machine>(machine: &M, row: &[u8], start: usize) -> Explored
 pub fn reached<M: Machine>(machine: &M, row: &[u8], start: usize) -> [bool; STATE_BOUND]
     ensures { Reached (M.Machine.meaning machine.now) row.now start result }
 {
-    let mut ends = [false; STATE_BOUND];
-    let n = machine.count();
-    if start < n {
-        let found = explore(machine, row, start);
-        for u in 0..n {
-            ends[u] = found.dist[u] < UNREACHED;
-        }
-    }
-    ends
+    let found = explore(machine, row, start);
+    array::from_fn(|u| found[u].is_some())
+}
+
+/// Whether some state that `ends` says yes of, as `reached` answers it, is marked in `goal`.
+pub fn meets(ends: &[bool], goal: &[u8]) -> bool
+    ensures { Decides result (Meets ends.now goal.now) }
+{
+    ends.iter()
+        .zip(goal)
+        .any(|(is_end, byte)| *is_end && *byte != 0)
 }
 
 /// Whether some walk from `start` ends at a state marked in `goal`, with all states before it marked in `row`.
@@ -75,29 +84,24 @@ pub fn walk_exists<M: Machine>(machine: &M, row: &[u8], goal: &[u8], start: usiz
     ensures means { Decides result (WalkFromState (M.Machine.meaning machine.now) row.now (Marked goal.now) start) }
     ensures test { result ≡ walk_exists (M.Machine.meaning machine.now) row.now goal.now start }
 {
-    let ends = reached(machine, row, start);
-    for u in 0..machine.count() {
-        if ends[u] && marked(goal, u) {
-            return true;
-        }
-    }
-    false
+    meets(&reached(machine, row, start), goal)
 }
 
-/// The nearest of the first `n` states that is marked in `goal`, if any is reached.
-fn nearest(dist: &[usize; STATE_BOUND], goal: &[u8], n: usize) -> Option<usize>
-    requires { n ≤ state_bound }
-    ensures { Chosen n (Marked goal.now) (λ v. slice_index dist.now v) result }
+/// The nearest state that is marked in `goal`, if any is reached, and its steps. A loop: by `min_by_key` it was tried, and
+/// what the filter before it leaves out was not proved.
+fn nearest(found: &[Option<Visit>; STATE_BOUND], goal: &[u8]) -> Option<(usize, usize)>
+    ensures { Chosen (Marked goal.now) (visit found.now) result }
 {
-    let mut best = UNREACHED;
-    let mut at = 0;
-    for u in 0..n {
-        if marked(goal, u) && dist[u] < best {
-            best = dist[u];
-            at = u;
+    let mut best = None;
+    for (u, visit) in found.iter().enumerate() {
+        if let Some(visit) = visit
+            && marked(goal, u)
+            && best.is_none_or(|(_, steps)| visit.steps < steps)
+        {
+            best = Some((u, visit.steps));
         }
     }
-    if best < UNREACHED { Some(at) } else { None }
+    best
 }
 
 /// Writes the states of a walk of the fewest steps from `start` to a state marked in `goal`, whose
@@ -113,25 +117,18 @@ pub fn shortest_walk<M: Machine>(
 ) -> Result<Option<usize>, Refusal>
     ensures { SearchAnswers (M.Machine.meaning machine.now) row.now goal.now start walk.old result walk.new }
 {
-    let n = machine.count();
-    if walk.len() < n {
+    if walk.len() < machine.count() {
         return Err(Refusal::ShortMemory);
     }
-    if start >= n {
-        return Ok(None);
-    }
     let found = explore(machine, row, start);
-    let Some(last) = nearest(&found.dist, goal, n) else {
+    let Some((last, steps)) = nearest(&found, goal) else {
         return Ok(None);
     };
-    let steps = found.dist[last];
     let mut at = last;
-    let mut left = steps;
-    walk[left] = at as State;
-    while left > 0 {
-        at = found.from[at];
-        left -= 1;
-        walk[left] = at as State;
+    // By place: tried by `iter_mut().rev()`, of whose writes nothing is known.
+    for place in (0..=steps).rev() {
+        walk[place] = at as State;
+        at = found[at].unwrap().before;
     }
     Ok(Some(steps + 1))
 }

@@ -1,52 +1,63 @@
-use Rattle.std.proofs.Common.{◌<◌, sym, arith}
-use Rattle.model.specs.Machines.{states}
+use Rattle.std.proofs.Common.{◌≡◌, ◌<◌, length, sym, refl, arith, rules}
+use Rattle.model.specs.Machines.{states, state_bound}
 use Rattle.model.proofs.Tests.{true_holds, false_fails}
-use Rattle.until.proofs.Breadth.{going_end}
-use Rattle.until.proofs.Turns.{at, outer_start, outer_skip, outer_at, inner_skip, inner_push, inner_end, inner_at, room_left}
+use Rattle.until.proofs.Breadth.{going_end, none_found}
+use Rattle.until.proofs.Turns.{at, none_visited, outer_start, outer_first, outer_skip, inner_skip, inner_push, inner_end, room_left}
 use Rattle.until.proofs.search.explore.Goals as goal
-use Rattle.until.proofs.search.explore.Goals.{then-dist-t-eq-UNREACHED+then-has_step, else-dist-t-eq-UNREACHED, else-dist-t-eq-UNREACHED-via-then-dist-t-eq-UNREACHED+else-has_step, else-dist-t-eq-UNREACHED-via-else-dist-t-eq-UNREACHED, then-marked+else-loop-t-test, else-marked}
+use Rattle.until.proofs.search.explore.Goals.{then-is_none+then-has_step, else-is_none, else-is_none-via-then-is_none+else-has_step, else-is_none-via-else-is_none, then-marked+else-loop-t-test, else-marked}
 
-pub loop-head-init : goal.loop-head-init
-loop-head-init g c = outer_start (g.M.Machine.bounded c.args.machine.now).few c.requires
+pub loop-s-init : goal.loop-s-init
+loop-s-init g c = outer_start _ _ (g.M.Machine.bounded c.args.machine.now).few (omega (arith, c.if-start-n.false, c.count-n.ensures)) refl (search rules)
 
-pub bounds-queue-tail : goal.bounds-queue-tail
-bounds-queue-tail g c =
-    let m = c.args.machine.now in
-    let room : c.loop-t.tail < states (g.M.Machine.meaning m) = room_left c.loop-t.invariant.outer c.loop-t.t (omega arith) c.if-dist-t-eq-UNREACHED.true in
-    omega (arith, (g.M.Machine.bounded m).few)
+pub offset_bounds-found-s : goal.offset_bounds-found-s
+offset_bounds-found-s g c =
+    let first = outer_first c.loop-s.invariant c.in-Some.s (search rules) (search rules) in
+    search rules
+
+pub unwrap-requires : goal.unwrap-requires
+unwrap-requires g c = (outer_first c.loop-s.invariant c.in-Some.s (search rules) (search rules)).1
+
+pub push-requires-then-has_step : goal.push-requires-then-has_step
+push-requires-then-has_step g c =
+    let room = room_left c.loop-t.invariant.outer c.loop-t.t (omega arith) c.if-is_none.ensures in
+    omega (arith, (g.M.Machine.bounded c.args.machine.now).few)
 
 pub loop-t-preserved : goal.loop-t-preserved
 loop-t-preserved g c =
     let m = c.args.machine.now in
     let inner = c.loop-t.invariant in
     let low : c.loop-t.t < states (g.M.Machine.meaning m) = omega arith in
-    elim c.if-dist-t-eq-UNREACHED.branch [
-      | then-dist-t-eq-UNREACHED+then-has_step w ↦
-          inner_at w.dist-is w.from-is w.queue-is w.tail-is
-          (inner_push inner (g.M.Machine.bounded m).few low w.if-dist-t-eq-UNREACHED.true
+    elim c.if-is_none.branch [
+      | then-is_none+then-has_step w ↦
+          rw (w.found-is, w.queue-is, w.push-then-has_step.ensures.items)
+          (inner_push inner low w.if-is_none.ensures
           (true_holds _ (sym c.if-marked.ensures))
           ((g.M.Machine.bounded m).inside _ _ (true_holds _ (sym w.if-has_step.ensures))))
-      | else-dist-t-eq-UNREACHED w ↦
-          inner_at w.dist-is w.from-is w.queue-is w.tail-is
-          (elim w.else-dist-t-eq-UNREACHED.branch [
-            | else-dist-t-eq-UNREACHED-via-then-dist-t-eq-UNREACHED+else-has_step w' ↦
+      | else-is_none w ↦
+          rw (w.found-is, w.queue-is)
+          (elim w.else-is_none.branch [
+            | else-is_none-via-then-is_none+else-has_step w' ↦
                 inner_skip inner (λ st. absurd (false_fails _ (sym w'.if-has_step.ensures) st.there)) low
-            | else-dist-t-eq-UNREACHED-via-else-dist-t-eq-UNREACHED w' ↦
-                inner_skip inner (λ st. omega (arith, inner.outer.most c.loop-t.t, w'.if-dist-t-eq-UNREACHED.false)) low
+            | else-is_none-via-else-is_none w' ↦
+                inner_skip inner (λ st. w'.if-is_none.ensures) low
           ])
     ]
 
-pub loop-head-preserved : goal.loop-head-preserved
-loop-head-preserved g c =
+pub loop-s-preserved : goal.loop-s-preserved
+loop-s-preserved g c =
     elim c.if-marked.branch [
       | then-marked+else-loop-t-test w ↦
-          outer_at w.dist-is w.from-is w.queue-is w.tail-is
+          rw (w.found-is, w.queue-is)
           (inner_end w.loop-t.invariant (omega (arith, w.loop-t-test.false, c.count-n.ensures)) (λ a b st. st.to_state))
       | else-marked w ↦
-          outer_at w.dist-is w.from-is w.queue-is w.tail-is
-          (outer_skip c.loop-head.invariant (at c.loop-head.queue c.loop-head.head) c.loop-head-test.true (cc)
-          (false_fails _ (sym w.if-marked.ensures)))
+          let some : c.loop-s.head < length c.loop-s.queue.items = search rules in
+          let first : at c.loop-s.queue.items c.loop-s.head ≡ c.in-Some.s = search rules in
+          rw (w.found-is, w.queue-is)
+          (outer_skip c.loop-s.invariant c.in-Some.s some first (false_fails _ (sym w.if-marked.ensures)))
     ]
 
+pub returns-then-start-n : goal.returns-then-start-n
+returns-then-start-n g c = none_found (omega (arith, c.if-start-n.true, c.count-n.ensures)) (none_visited state_bound)
+
 pub returns : goal.returns
-returns g c = going_end c.loop-head.invariant.going c.loop-head-test.false (λ a b st. (st.from_state, st.to_state))
+returns g c = going_end c.loop-s.invariant.going (search rules) (omega (arith, c.if-start-n.false, c.count-n.ensures))

@@ -7,12 +7,12 @@ use Rattle.until.proofs.search.explore.Given as goal
 abbrev pub invariant-loop-t : goal.invariant-loop-t
 invariant-loop-t g l =
     let m = g.M.Machine.meaning l.machine in
-    Inner (states m) (Step m) (Marked l.row) l.start l.head l.s l.d l.dist l.from l.queue l.tail l.t
+    Inner (states m) (Step m) (Marked l.row) l.start l.head l.next l.found l.queue.items l.t
 
-abbrev pub invariant-loop-head : goal.invariant-loop-head
-invariant-loop-head g l =
+abbrev pub invariant-loop-s : goal.invariant-loop-s
+invariant-loop-s g l =
     let m = g.M.Machine.meaning l.machine in
-    Outer (states m) (Step m) (Marked l.row) l.start l.dist l.from l.queue l.head l.tail
+    Outer (states m) (Step m) (Marked l.row) l.start l.found l.queue.items l.head
 
-abbrev pub decreases-loop-head : goal.decreases-loop-head
-decreases-loop-head g l = state_bound - l.head
+abbrev pub decreases-loop-s : goal.decreases-loop-s
+decreases-loop-s g l = state_bound - l.head

@@ -1,5 +1,6 @@
+use Rattle.std.proofs.Common.{rules}
 use Rattle.until.proofs.Decided.{walks_decides}
 use Rattle.until.proofs.theory.walks_decide.Goals as goal
 
 pub returns : goal.returns
-returns g c = λ ok goal t. walks_decides (g.M.Machine.meaning c.args.machine.now) ok goal (g.M.Machine.bounded c.args.machine.now) t
+returns g c = search (rules, walks_decides)
