@@ -1,7 +1,7 @@
 -- What the search for a shortest walk says of a step that is to be answered. Assumes nothing.
 use Rattle.std.proofs.Common.{◌≡◌, ℕ, ◌<◌, ◌≤◌, false, true, not, ltb, List, [], ◌∷◌, ◌++◌, length, Some, None, Ok, Option, Result, sym, refl, subst}
 use Rattle.std.specs.Option.{ok_or}
-use Rattle.std.proofs.lemmas.Bool.{not_from_true, not_from_false}
+use Rattle.std.proofs.lemmas.Bool.{not_from_true, not_from_false, false_from_ne_true}
 use Rattle.model.specs.declared.refusal.Refusal.{Refusal}
 use Rattle.model.specs.declared.refusal.Refusal.TheVariants.{NoSuchStep}
 use Rattle.model.specs.Machines.{Meaning, Bounded, states}
@@ -15,7 +15,7 @@ use Rattle.sheet.specs.Verdicts.{answered}
 use Rattle.sheet.specs.Pages.{short_pairs}
 use Rattle.sheet.specs.Causes.{own_tests, settled_tests, step_tests}
 use Rattle.sheet.specs.Calls.{WritesWalk, Answers}
-use Rattle.sheet.proofs.Judging.{rows_answered, rows_unanswered}
+use Rattle.sheet.proofs.Judging.{rows_decide}
 
 module _ {L : Type 0} (m : Meaning L) (bounded : Bounded m) (pairs : List ℕ) (s t u : ℕ) (low : t < states m) (walk after : List ℕ)
     (stood : stands (states m) pairs s t ≡ true) (step : m.step s u ≡ true) where
@@ -26,8 +26,8 @@ module _ {L : Type 0} (m : Meaning L) (bounded : Bounded m) (pairs : List ℕ) (
     where
       by_walk : (o : Option ℕ) → WrittenIfAny m (row_of (states m) pairs s) (row_of (states m) pairs u) t walk after o →
           Checked (cause ((not (answered m pairs s u t), 11) ∷ [])) (after ≡ walk) (Written m (row_of (states m) pairs s) (row_of (states m) pairs u) t walk after) (ok_or o NoSuchStep)
-      by_walk (Some k) found = when_answered (clear_none ((not (answered m pairs s u t), 11) ∷ []) (not_from_true _ (rows_answered m bounded pairs s t low u found.walk), tt)) found
-      by_walk None found = when_refused 11 (finds (not (answered m pairs s u t)) 11 [] (not_from_false _ (rows_unanswered m bounded pairs s t low u found.0))) refl found.1
+      by_walk (Some k) found = when_answered (clear_none ((not (answered m pairs s u t), 11) ∷ []) (not_from_true _ ((rows_decide m bounded pairs s t low u).1 found.walk), tt)) found
+      by_walk None found = when_refused 11 (finds (not (answered m pairs s u t)) 11 [] (not_from_false _ (false_from_ne_true _ (λ e. found.0 (low, (rows_decide m bounded pairs s t low u).0 e))))) refl found.1
 
   pub search_answers : (row goal : List ℕ) (r : Result (Option ℕ) Refusal) (o : Option ℕ) → row ≡ row_of (states m) pairs s → goal ≡ row_of (states m) pairs u →
       SearchAnswers m row goal t walk r after → states m ≤ length walk → r ≡ Ok o → WritesWalk m pairs s t u walk (ok_or o NoSuchStep) after

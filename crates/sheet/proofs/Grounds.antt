@@ -1,7 +1,9 @@
 -- The ground that is computed is one, and where none is computed there is none. Assumes nothing.
-use Rattle.std.proofs.Common.{◌≡◌, ℕ, zero, suc, ◌<◌, Bool, true, false, cond, T, ltb, List, Some, None, sym, refl, ap, ◌∙◌, subst, ⊎_elim, arith}
-use Rattle.std.proofs.lemmas.Bool.{cases_Bool, cases_lt, cond-true, cond-false, lt-ltb, le-ltb, and_parts, not-true, both_ways, and_from, not_from_false}
-use Rattle.std.proofs.lemmas.Bool.Decides.{not_from_Decides}
+use Rattle.std.proofs.Common.{◌≡◌, ℕ, zero, suc, ◌<◌, ◌≤◌, Bool, true, false, cond, T, ltb, Decides, List, Some, None, Option, refl, arith}
+use Rattle.std.specs.Option.{MatchOption}
+use Rattle.std.proofs.lemmas.Bool.{ltb-true, ltb-false, cond_both, both_ways}
+use Rattle.std.proofs.lemmas.Bool.Decides.{Decides-and, Decides-not}
+use Rattle.std.proofs.lemmas.Option.{MatchOption-at_some, MatchOption-at_none}
 use Rattle.model.specs.Machines.{Bounded, label_of}
 use Rattle.model.proofs.Tests.{holds_true, true_holds, false_fails}
 use Rattle.until.proofs.Decided.{walks_decides}
@@ -12,24 +14,30 @@ use Rattle.strikes.specs.Strikes.{Grounded}
 use Rattle.sheet.specs.Memory.{stands}
 use Rattle.sheet.specs.Verdicts.{Setting, size, least, below, by_step, answered, unanswered, least_unanswered, ground_of}
 
-pub least_has : (p : ℕ → Bool) (n : ℕ) → least p n < n → p (least p n) ≡ true
-least_has p zero h = absurd (omega arith)
-least_has p (suc n) h = split (p zero) refl (least_has (λ i. p (suc i)) n) h
-  where
-    split : (b : Bool) → p zero ≡ b → (least (λ i. p (suc i)) n < n → p (suc (least (λ i. p (suc i)) n)) ≡ true) →
-        cond b zero (suc (least (λ i. p (suc i)) n)) < suc n → p (cond b zero (suc (least (λ i. p (suc i)) n))) ≡ true
-    split true e rest l = e
-    split false e rest l = rest (omega arith)
+-- v is the first number that passes, or n where none below n does
+pub record First (p : ℕ → Bool) (n v : ℕ) : Type 0 where
+  pub most : v ≤ n
+  pub has : v < n → p v ≡ true
+  pub before : (w : ℕ) → w < v → p w ≡ false
 
-pub least_before : (p : ℕ → Bool) (n w : ℕ) → w < least p n → p w ≡ false
-least_before p zero w h = absurd (omega arith)
-least_before p (suc n) w h = split (p zero) refl (least_before (λ i. p (suc i)) n) w h
+pub least_first : (p : ℕ → Bool) (n : ℕ) → First p n (least p n)
+least_first p zero = record { most = omega arith; has = λ h. absurd (omega arith); before = λ w h. absurd (omega arith) }
+least_first p (suc n) = split (p zero) refl (least (λ i. p (suc i)) n) (least_first (λ i. p (suc i)) n)
   where
-    split : (b : Bool) → p zero ≡ b → ((w : ℕ) → w < least (λ i. p (suc i)) n → p (suc w) ≡ false) →
-        (w : ℕ) → w < cond b zero (suc (least (λ i. p (suc i)) n)) → p w ≡ false
-    split true e rest w l = absurd (omega arith)
-    split false e rest zero l = e
-    split false e rest (suc w) l = rest w (omega arith)
+    later : (v : ℕ) → p zero ≡ false → First (λ i. p (suc i)) n v → (w : ℕ) → w < suc v → p w ≡ false
+    later v e rest zero h = e
+    later v e rest (suc w) h = rest.before w (omega arith)
+
+    split : (b : Bool) → p zero ≡ b → (v : ℕ) → First (λ i. p (suc i)) n v → First p (suc n) (cond b zero (suc v))
+    split true e v rest = record { most = omega arith; has = λ h. e; before = λ w h. absurd (omega arith) }
+    split false e v rest = record { most = omega (arith, rest.most); has = λ h. rest.has (omega arith); before = later v e rest }
+
+below_tells : (p : ℕ → Bool) (n : ℕ) → MatchOption (below n (least p n)) ((w : ℕ) → w < n → p w ≡ false) (λ v. p v ≡ true)
+below_tells p n =
+    let v = least p n in
+    let first = least_first p n in
+    cond_both (ltb v n) (Some v) None (λ o. MatchOption o ((w : ℕ) → w < n → p w ≡ false) (λ v. p v ≡ true))
+    (λ e. first.has (ltb-true v n e)) (λ e w l. first.before w (omega (arith, ltb-false v n e)))
 
 module _ {L : Type 0} (on : Setting L) (bounded : Bounded on.machine) (pairs : List ℕ) where
   -- what stands by the bytes
@@ -37,71 +45,29 @@ module _ {L : Type 0} (on : Setting L) (bounded : Bounded on.machine) (pairs : L
   ByBytes s t = T (stands (size on) pairs s t)
 
   module _ (s t : ℕ) where
-    by_step_lem : (u : ℕ) → unanswered on.machine pairs s t u ≡ true → Grounded on.at_most on.machine ByBytes s t (ByStep u)
-    by_step_lem u e =
-        let p = and_parts (on.machine.step s u) _ e in (
-          bounded.inside s u (true_holds _ p.0),
-          not_from_Decides _ (walks_decides on.machine (stands (size on) pairs s) (stands (size on) pairs u) bounded t) (not-true _ p.1),
-        )
+    step_decides : (u : ℕ) → Decides (unanswered on.machine pairs s t u) (Grounded on.at_most on.machine ByBytes s t (ByStep u))
+    step_decides u =
+        Decides-and (on.machine.step s u) _ (λ e. bounded.inside s u (true_holds _ e), λ step. holds_true _ step.there)
+        (Decides-not (answered on.machine pairs s u t) (walks_decides on.machine (stands (size on) pairs s) (stands (size on) pairs u) bounded t))
 
-    no_step : (u : ℕ) → unanswered on.machine pairs s t u ≡ false → Grounded on.at_most on.machine ByBytes s t (ByStep u) → ⊥
-    no_step u e g =
-        let decides = walks_decides on.machine (stands (size on) pairs s) (stands (size on) pairs u) bounded t in
-        ⊎_elim
-        (λ a. g.1 (decides.0 a))
-        (λ a. both_ways _ e (and_from (on.machine.step s u) _ (holds_true _ g.0.there) (not_from_false _ a)))
-        (cases_Bool (answered on.machine pairs s u t))
-
-    agree : Bool
+    abbrev agree : Bool
     agree = under on.at_most (label_of on.machine s) (label_of on.machine t)
 
-    -- the ground where the labels agree
-    step_ground : (v : ℕ) → v ≡ least (unanswered on.machine pairs s t) (size on) → (g : Ground) → by_step (below (size on) v) ≡ Some g → Grounded on.at_most on.machine ByBytes s t g
-    step_ground v ev g e =
-        ⊎_elim
-        (λ l.
-        let is : Some (ByStep v) ≡ Some g = sym (ap by_step (cond-true (ltb v (size on)) (Some v) None (lt-ltb v (size on) l))) ∙ e in
-        let same : ByStep v ≡ g = cc in
-        subst (Grounded on.at_most on.machine ByBytes s t) same
-        (by_step_lem v (subst (λ x. unanswered on.machine pairs s t x ≡ true) (sym ev) (least_has (unanswered on.machine pairs s t) (size on) (omega arith)))))
-        (λ l.
-        let is : None ≡ Some g = sym (ap by_step (cond-false (ltb v (size on)) (Some v) None (le-ltb v (size on) l))) ∙ e in
-        let z : ◌≡◌ {A = ℕ} 0 1 = cc in absurd (omega arith))
-        (cases_lt v (size on))
+    ground_tells : MatchOption (ground_of on pairs s t) ((g : Ground) → Grounded on.at_most on.machine ByBytes s t g → ⊥) (Grounded on.at_most on.machine ByBytes s t)
+    ground_tells = split agree refl (least_unanswered on.machine pairs s t) (below_tells (unanswered on.machine pairs s t) (size on))
+      where
+        none_there : agree ≡ true → ((u : ℕ) → u < size on → unanswered on.machine pairs s t u ≡ false) → (g : Ground) → Grounded on.at_most on.machine ByBytes s t g → ⊥
+        none_there e none ByLabel bad = bad (true_holds agree e)
+        none_there e none (ByStep u) g = both_ways _ (none u g.0.to_state) ((step_decides u).1 g)
+
+        split : (b : Bool) → agree ≡ b → (o : Option ℕ) → MatchOption o ((u : ℕ) → u < size on → unanswered on.machine pairs s t u ≡ false) (λ u. unanswered on.machine pairs s t u ≡ true) →
+            MatchOption (cond b (by_step o) (Some ByLabel)) ((g : Ground) → Grounded on.at_most on.machine ByBytes s t g → ⊥) (Grounded on.at_most on.machine ByBytes s t)
+        split true e None none = none_there e none
+        split true e (Some u) found = (step_decides u).0 found
+        split false e o told = false_fails agree e
 
     pub ground_there : (g : Ground) → ground_of on pairs s t ≡ Some g → Grounded on.at_most on.machine ByBytes s t g
-    unfolding agree
-    ground_there g e =
-        ⊎_elim
-        (λ yes. step_ground _ refl g (sym (cond-true agree _ _ yes) ∙ e))
-        (λ no_label.
-        let is : Some ByLabel ≡ Some g = sym (cond-false agree (by_step (least_unanswered on.machine pairs s t)) (Some ByLabel) no_label) ∙ e in
-        let same : ByLabel ≡ g = cc in
-        subst (Grounded on.at_most on.machine ByBytes s t) same (false_fails agree no_label))
-        (cases_Bool agree)
-
-    no_label : ground_of on pairs s t ≡ None → agree ≡ true
-    unfolding agree
-    no_label e =
-        ⊎_elim
-        (λ h. h)
-        (λ h.
-        let is : Some ByLabel ≡ None = sym (cond-false agree (by_step (least_unanswered on.machine pairs s t)) (Some ByLabel) h) ∙ e in
-        let z : ◌≡◌ {A = ℕ} 0 1 = cc in absurd (omega arith))
-        (cases_Bool agree)
-
-    all_answered : ground_of on pairs s t ≡ None → (u : ℕ) → u < size on → unanswered on.machine pairs s t u ≡ false
-    unfolding agree
-    all_answered e u l =
-        let v = least (unanswered on.machine pairs s t) (size on) in
-        ⊎_elim
-        (λ low.
-        let is : Some (ByStep v) ≡ None = sym (cond-true agree (by_step (least_unanswered on.machine pairs s t)) (Some ByLabel) (no_label e) ∙ ap by_step (cond-true (ltb v (size on)) (Some v) None (lt-ltb v (size on) low))) ∙ e in
-        let z : ◌≡◌ {A = ℕ} 0 1 = cc in absurd (omega arith))
-        (λ high. least_before (unanswered on.machine pairs s t) (size on) u (omega arith))
-        (cases_lt v (size on))
+    ground_there g e = MatchOption-at_some _ _ g e ground_tells
 
     pub no_ground : ground_of on pairs s t ≡ None → (g : Ground) → Grounded on.at_most on.machine ByBytes s t g → ⊥
-    unfolding agree
-    no_ground e ByLabel bad = bad (true_holds agree (no_label e))
-    no_ground e (ByStep u) g = no_step u (all_answered e u g.0.to_state) g
+    no_ground e = MatchOption-at_none _ _ e ground_tells

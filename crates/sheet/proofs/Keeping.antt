@@ -12,15 +12,14 @@ use Rattle.strikes.specs.Statements.{Entails}
 use Rattle.sheet.specs.declared.verdict.Verdict.{Verdict}
 use Rattle.sheet.specs.declared.request.Request.{Request}
 use Rattle.sheet.specs.declared.request.Request.TheVariants.{Try, Sweep, Settle, Class, Below, Reason, Answer}
-use Rattle.sheet.specs.declared.request.Reply.{Reply}
-use Rattle.sheet.specs.declared.request.Reply.TheVariants.{Refused, Tried, Swept, Settled, ClassIs, IsBelow, ReasonIs, Walked}
+use Rattle.sheet.specs.declared.request.Reply.TheVariants.{Tried, Swept, Settled, ClassIs, IsBelow, ReasonIs, Walked}
 use Rattle.sheet.specs.Memory.{Memory, stands, history}
 use Rattle.sheet.specs.Verdicts.{Setting, size, applied, tried, swept, settled}
 use Rattle.sheet.specs.Genuine.{Genuine, Grown}
 use Rattle.sheet.specs.Pages.{Page, held, holding, Came, record_of}
 use Rattle.sheet.specs.Causes.{sheet_tests, page_tests, settled_tests, try_tests, sweep_tests, settle_tests, class_tests, below_tests, record_tests, reason_tests, step_tests, answer_tests}
 use Rattle.sheet.specs.Calls.{Tries, Sweeps, Settles, Classes, Belows, Reasons, Answers}
-use Rattle.sheet.specs.Replies.{reply, Replies}
+use Rattle.sheet.specs.Replies.{Replied, reply, Replies}
 use Rattle.sheet.specs.Tells.{SaysStruck, Represents, Answering}
 use Rattle.sheet.specs.Promises.{Onward, Says, Given, Rests, Kept}
 use Rattle.sheet.proofs.Came.{Inside, page_fits, settled_fits, came_clear, came_holding}
@@ -35,31 +34,31 @@ module _ {L : Type 0} (on : Setting L) (bounded : Bounded on.machine) (p : Page)
   genuine = came.genuine
 
   -- the same reply and page
-  as_it_was : (q : Request) (a b : Reply) (after : Page) → a ≡ b → after ≡ p → Kept on p q b p → Kept on p q a after
+  as_it_was : (q : Request) (a b : Replied) (after : Page) → a ≡ b → after ≡ p → Kept on p q b p → Kept on p q a after
   as_it_was q a b after same still k = subst (λ x. Kept on p q x after) (sym same) (subst (Kept on p q b) (sym still) k)
 
   -- a refusal says nothing
-  refused_says : (q : Request) (e : Refusal) → Says on p q (Refused e)
-  refused_says (Try s t) e = λ v is says. let z : ◌≡◌ {A = ℕ} 0 1 = cc in absurd (omega arith)
+  refused_says : (q : Request) (e : Refusal) → Says on p q (Err e)
+  refused_says (Try s t) e = λ v is says. cc
   refused_says (Sweep s) e = tt
-  refused_says Settle e = λ k l is. let z : ◌≡◌ {A = ℕ} 0 1 = cc in absurd (omega arith)
-  refused_says (Class s) e = λ c is. let z : ◌≡◌ {A = ℕ} 0 1 = cc in absurd (omega arith)
-  refused_says (Below s t) e = λ b is. let z : ◌≡◌ {A = ℕ} 0 1 = cc in absurd (omega arith)
-  refused_says (Reason s t) e = λ k is. let z : ◌≡◌ {A = ℕ} 0 1 = cc in absurd (omega arith)
-  refused_says (Answer s t u) e = λ k memory is. let z : ◌≡◌ {A = ℕ} 0 1 = cc in absurd (omega arith)
+  refused_says Settle e = λ k l is. cc
+  refused_says (Class s) e = λ c is. cc
+  refused_says (Below s t) e = λ b is. cc
+  refused_says (Reason s t) e = λ k is. cc
+  refused_says (Answer s t u) e = λ k memory is. cc
 
-  refused_rests : (q : Request) (e : Refusal) → Rests on p q (Refused e)
-  refused_rests (Try s t) e = λ v is. let z : ◌≡◌ {A = ℕ} 0 1 = cc in absurd (omega arith)
-  refused_rests (Sweep s) e = λ k is. let z : ◌≡◌ {A = ℕ} 0 1 = cc in absurd (omega arith)
-  refused_rests Settle e = λ k l is. let z : ◌≡◌ {A = ℕ} 0 1 = cc in absurd (omega arith)
+  refused_rests : (q : Request) (e : Refusal) → Rests on p q (Err e)
+  refused_rests (Try s t) e = λ v is. cc
+  refused_rests (Sweep s) e = λ k is. cc
+  refused_rests Settle e = λ k l is. cc
   refused_rests (Class s) e = tt
   refused_rests (Below s t) e = tt
   refused_rests (Reason s t) e = tt
   refused_rests (Answer s t u) e = tt
 
-  refused_kept : (q : Request) (e : Refusal) (after : Page) → after ≡ p → Given on p q (Refused e) → Kept on p q (Refused e) after
+  refused_kept : (q : Request) (e : Refusal) (after : Page) → after ≡ p → Given on p q (Err e) → Kept on p q (Err e) after
   refused_kept q e after same given =
-      subst (Kept on p q (Refused e)) (sym same) (record { onward = onward_self on p came; says = refused_says q e; given = given; rests = refused_rests q e })
+      subst (Kept on p q (Err e)) (sym same) (record { onward = onward_self on p came; says = refused_says q e; given = given; rests = refused_rests q e })
 
   -- the page with other genuine memory, which is the same where the page is settled
   onward_to : (z : Bool) (mem : Memory) → Genuine on z mem → Grown (held p) mem → (p.sheet.settled ≡ true → (z ≡ true) × (mem ≡ held p)) → (after : Page) → after ≡ holding p z mem → Onward on p after
@@ -82,7 +81,7 @@ module _ {L : Type 0} (on : Setting L) (bounded : Bounded on.machine) (p : Page)
             (λ settled. (settled, rests_tried on bounded z (held p) genuine settled s t low.0 low.1.0)) after good.0.1;
         says = λ w is says.
             let same : v ≡ w = cc in
-            subst (λ x. Says on x (Try s t) (Tried w)) (sym good.0.1) (λ w' is' says'. struck_tried on bounded z (held p) genuine s t low.0 low.1.0 (subst SaysStruck (sym same ∙ good.0.0) says)) w refl says;
+            subst (λ x. Says on x (Try s t) (Ok (Tried w))) (sym good.0.1) (λ w' is' says'. struck_tried on bounded z (held p) genuine s t low.0 low.1.0 (subst SaysStruck (sym same ∙ good.0.0) says)) w refl says;
         given = λ hs ht. (v, refl);
         rests = λ w is.
             let same : v ≡ w = cc in (
@@ -133,7 +132,7 @@ module _ {L : Type 0} (on : Setting L) (bounded : Bounded on.machine) (p : Page)
         let still : p.sheet.settled ≡ true → settled on (held p) ≡ (held p, 1) = λ z. rests_settled on bounded (held p) (subst (λ b. Genuine on b (held p)) z genuine) in
         record {
           onward = onward_to true (settled on (held p)).0 done.0 done.1 (λ z. (refl, ap (λ x. x.0) (still z))) after good.0.2;
-          says = subst (λ x. Says on x Settle (Settled a.0 a.1)) (sym good.0.2) (λ k l is. (refl, stands_largest on bounded laws true (settled on (held p)).0 done.0 refl));
+          says = subst (λ x. Says on x Settle (Ok (Settled a.0 a.1))) (sym good.0.2) (λ k l is. (refl, stands_largest on bounded laws true (settled on (held p)).0 done.0 refl));
           given = (a.0, a.1, refl);
           rests = λ k l is z.
               let first : a.0 ≡ k = cc in
@@ -219,7 +218,7 @@ module _ {L : Type 0} (on : Setting L) (bounded : Bounded on.machine) (p : Page)
         }
 
     -- every request of a run
-    pub kept : (q : Request) (a : Reply) (after : Page) → Replies on p q a after → Kept on p q a after
+    pub kept : (q : Request) (a : Replied) (after : Page) → Replies on p q a after → Kept on p q a after
     kept (Try s t) a after x = subst (λ y. Kept on p (Try s t) y after) (sym x.1) (try_kept s t x.0 after x.2)
     kept (Sweep s) a after x = subst (λ y. Kept on p (Sweep s) y after) (sym x.1) (sweep_kept s x.0 after x.2)
     kept Settle a after x = subst (λ y. Kept on p Settle y after) (sym x.1) (settle_kept x.0 after x.2)

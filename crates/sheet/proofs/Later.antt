@@ -9,11 +9,11 @@ use Rattle.strikes.specs.Strikes.{struck}
 use Rattle.strikes.specs.Told.{formula_of}
 use Rattle.sheet.specs.declared.request.Request.{Request}
 use Rattle.sheet.specs.declared.request.Request.TheVariants.{Try, Sweep, Settle, Class, Below, Reason, Answer}
-use Rattle.sheet.specs.declared.request.Reply.{Reply}
 use Rattle.sheet.specs.Memory.{Memory, history}
 use Rattle.sheet.specs.Verdicts.{Setting}
 use Rattle.sheet.specs.Genuine.{Grown}
 use Rattle.sheet.specs.Pages.{Page, held, Came}
+use Rattle.sheet.specs.Replies.{Replied}
 use Rattle.sheet.specs.Tells.{IsStruck, Shown}
 use Rattle.sheet.specs.Promises.{Onward, Says}
 use Rattle.sheet.proofs.Growing.{grown_self, grown_then}
@@ -55,7 +55,7 @@ module _ {L : Type 0} (on : Setting L) where
     rests = λ settled. y.rests (ap (λ p. p.sheet.settled) (x.rests settled) ∙ settled) ∙ x.rests settled;
   }
 
-  pub says_later : (p after : Page) → Onward on p after → (q : Request) (a : Reply) → Says on p q a → Says on after q a
+  pub says_later : (p after : Page) → Onward on p after → (q : Request) (a : Replied) → Says on p q a → Says on after q a
   says_later p after m (Try s t) a h = λ v is says. struck_later (held p) (held after) m.grown s t (h v is says)
   says_later p after m (Sweep s) a h = tt
   says_later p after m Settle a h = λ k l is. subst (λ x. Says on x Settle a) (sym (m.rests (h k l is).0)) h k l is

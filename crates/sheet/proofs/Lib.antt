@@ -7,10 +7,11 @@ pub mod Agreement
 pub mod Growing
 pub mod Settling
 pub mod Came
-pub mod Numbers
-pub mod Summing
+pub mod Causes
 pub mod Telling
+pub mod Leaving
 pub mod Records
+pub mod Reading
 pub mod Later
 pub mod Keeping
 pub mod Answering

@@ -1,14 +1,16 @@
 -- Room and the sum of pairs and strikes last from try to try. Assumes nothing.
-use Rattle.std.proofs.Common.{◌≡◌, ℕ, zero, suc, ◌+◌, ◌*◌, ◌<◌, ◌≤◌, Bool, true, false, cond, not, eqb, length, get_or, take, set, Some, None, count_by, Option, sym, ap, ◌∙◌, subst, ⊎_elim, arith}
+use Rattle.std.proofs.Common.{◌≡◌, ℕ, zero, suc, ◌+◌, ◌*◌, ◌<◌, ◌≤◌, Bool, true, false, cond, not, eqb, List, length, get_or, take, set, Some, None, count_by, Option, refl, ap, ◌∙◌, arith}
 use lib.Seq.{take-set-lt}
 use lib.Arith.{digits_lt}
 use Rattle.std.proofs.lemmas.List.Sums.{sum_by-set, get_or-le-sum_by}
 use Rattle.std.proofs.lemmas.List.{length-set, length-take-le, get_or-take}
-use Rattle.std.proofs.lemmas.Bool.{cases_Bool, cond-true, cond-false}
+use Rattle.std.proofs.lemmas.Bool.{cond_both}
 use Rattle.strikes.specs.declared.strike.Ground.{Ground}
 use Rattle.strikes.specs.declared.strike.Strike.{Strike}
+use Rattle.sheet.specs.declared.verdict.Verdict.{Verdict}
+use Rattle.sheet.specs.declared.verdict.Verdict.TheVariants.{StaysStruck, Stays, Struck}
 use Rattle.sheet.specs.Memory.{Memory, memory, stands, Ready}
-use Rattle.sheet.specs.Verdicts.{Setting, size, judged, strike, applied, ground_of, tried, swept, passed, next, settled_in}
+use Rattle.sheet.specs.Verdicts.{Setting, size, judged, strike, applied, ground_of, verdict_of, tried, swept, passed, next, settled_in}
 
 -- 1 for a byte that stands
 abbrev bit : ℕ → ℕ
@@ -31,7 +33,7 @@ module _ (n : ℕ) (mem : Memory) (ready : Ready n mem) (s t : ℕ) (hs : s < n)
   pub strike_room : mem.made < n * n
   strike_room = omega (arith, ready.adds_up, one_there, get_or-le-sum_by bit (take (n * n) mem.pairs) (s * n + t) 0 long)
 
-  ready_strike : (k : Strike) → Ready n (memory (set mem.pairs (s * n + t) 0) (set mem.records mem.made k) (mem.made + 1))
+  pub ready_strike : (k : Strike) → Ready n (memory (set mem.pairs (s * n + t) 0) (set mem.records mem.made k) (mem.made + 1))
   ready_strike k = record {
     pairs_fit = omega (arith, length-set mem.pairs (s * n + t) 0, ready.pairs_fit);
     records_fit = omega (arith, length-set mem.records mem.made k, ready.records_fit);
@@ -44,35 +46,23 @@ module _ (n : ℕ) (mem : Memory) (ready : Ready n mem) (s t : ℕ) (hs : s < n)
     );
   }
 
-  pub ready_judged : (g : Option Ground) → Ready n (applied n mem (judged s t g))
-  ready_judged None = ready
-  ready_judged (Some g) = ready_strike (strike s t g)
-
-made_judged : (n : ℕ) (mem : Memory) (s t : ℕ) (g : Option Ground) → mem.made ≤ (applied n mem (judged s t g)).made
-made_judged n mem s t None = omega arith
-made_judged n mem s t (Some g) = omega arith
-
 module _ {L : Type 0} (on : Setting L) where
-  -- a try, by whether the pair stood
-  pub tried_stood : (mem : Memory) (s t : ℕ) → stands (size on) mem.pairs s t ≡ true → tried on mem s t ≡ applied (size on) mem (judged s t (ground_of on mem.pairs s t))
-  tried_stood mem s t e = ap (applied (size on) mem) (cond-true (stands (size on) mem.pairs s t) _ _ e)
-
-  pub tried_struck : (mem : Memory) (s t : ℕ) → stands (size on) mem.pairs s t ≡ false → tried on mem s t ≡ mem
-  tried_struck mem s t e = ap (applied (size on) mem) (cond-false (stands (size on) mem.pairs s t) _ _ e)
+  -- the three verdicts, and when they are given
+  pub by_verdict : (pairs : List ℕ) (s t : ℕ) (P : Verdict → Type 0) → (stands (size on) pairs s t ≡ false → P StaysStruck) →
+      (stands (size on) pairs s t ≡ true → ground_of on pairs s t ≡ None → P Stays) →
+      ((g : Ground) → stands (size on) pairs s t ≡ true → ground_of on pairs s t ≡ Some g → P (Struck (strike s t g))) → P (verdict_of on pairs s t)
+  by_verdict pairs s t P before stays struck = cond_both (stands (size on) pairs s t) _ StaysStruck P (by_ground (ground_of on pairs s t) refl) before
+    where
+      by_ground : (o : Option Ground) → ground_of on pairs s t ≡ o → stands (size on) pairs s t ≡ true → P (judged s t o)
+      by_ground None e stood = stays stood e
+      by_ground (Some g) e stood = struck g stood e
 
   pub ready_tried : (mem : Memory) → Ready (size on) mem → (s t : ℕ) → s < size on → t < size on → Ready (size on) (tried on mem s t)
   ready_tried mem ready s t hs ht =
-      ⊎_elim
-      (λ e. subst (Ready (size on)) (sym (tried_stood mem s t e)) (ready_judged (size on) mem ready s t hs ht e (ground_of on mem.pairs s t)))
-      (λ e. subst (Ready (size on)) (sym (tried_struck mem s t e)) ready)
-      (cases_Bool (stands (size on) mem.pairs s t))
+      by_verdict mem.pairs s t (λ v. Ready (size on) (applied (size on) mem v)) (λ _. ready) (λ _ _. ready) (λ g stood _. ready_strike (size on) mem ready s t hs ht stood (strike s t g))
 
   pub made_tried : (mem : Memory) (s t : ℕ) → mem.made ≤ (tried on mem s t).made
-  made_tried mem s t =
-      ⊎_elim
-      (λ e. subst (λ x. mem.made ≤ x.made) (sym (tried_stood mem s t e)) (made_judged (size on) mem s t (ground_of on mem.pairs s t)))
-      (λ e. subst (λ x. mem.made ≤ x.made) (sym (tried_struck mem s t e)) (omega arith))
-      (cases_Bool (stands (size on) mem.pairs s t))
+  made_tried mem s t = by_verdict mem.pairs s t (λ v. mem.made ≤ (applied (size on) mem v).made) (λ _. omega arith) (λ _ _. omega arith) (λ g _ _. omega arith)
 
   pub ready_swept : (mem : Memory) → Ready (size on) mem → (s : ℕ) → s < size on → (t : ℕ) → t ≤ size on → Ready (size on) (swept on mem s t)
   ready_swept mem ready s hs zero h = ready
@@ -94,12 +84,17 @@ module _ {L : Type 0} (on : Setting L) where
 pub made_few : (n : ℕ) (mem : Memory) → Ready n mem → mem.made ≤ n * n
 made_few n mem ready = omega (arith, ready.adds_up)
 
+-- one pair more of a row
+pub swept_few : {L : Type 0} (on : Setting L) (start now after : Memory) (s t : ℕ) → Ready (size on) start → s < size on → t < size on →
+    now ≡ swept on start s t → after ≡ tried on now s t → after.made ≤ size on * size on
+swept_few on start now after s t ready hs ht e f =
+    made_few (size on) after (rw (f, e) (ready_swept on start ready s hs (suc t) (omega arith)))
+
 -- a whole pass
-pub ready_pass : {L : Type 0} (on : Setting L) (now after : Memory) → Ready (size on) now → after ≡ passed on now (size on) → Ready (size on) after × (now.made ≤ after.made)
-ready_pass on now after ready e = (
-  subst (λ x. Ready (size on) x) (sym e) (ready_passed on now ready (size on) (omega arith)),
-  subst (λ x. now.made ≤ x.made) (sym e) (made_passed on now (size on)),
-)
+pub ready_pass : {L : Type 0} (on : Setting L) (now after : Memory) → Ready (size on) now → after ≡ passed on now (size on) → Ready (size on) after × (now.made ≤ after.made) × (after.made ≤ size on * size on)
+ready_pass on now after ready e =
+    let there : Ready (size on) after = rw e (ready_passed on now ready (size on) (omega arith)) in
+    (there, rw e (made_passed on now (size on)), made_few (size on) after there)
 
 -- all passes
 pub made_settled : {L : Type 0} (on : Setting L) (most : ℕ) (mem : Memory) → mem.made ≤ (settled_in on most mem).0.made

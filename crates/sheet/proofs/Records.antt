@@ -1,7 +1,11 @@
 -- Struck pairs and their records. Assumes nothing.
-use Rattle.std.proofs.Common.{◌≡◌, ℕ, zero, suc, ◌<◌, true, false, ◌||◌, eqb, List, [], ◌∷◌, ◌++◌, reverse, length, take, is_some, Some, sym, refl, ap, ◌∙◌, subst, ⊎_elim, arith}
+use Rattle.std.proofs.Common.{◌≡◌, ℕ, ◌<◌, true, false, cond, ◌||◌, eqb, List, [], ◌∷◌, ◌++◌, reverse, length, take, is_some, Some, sym, refl, ap, ◌∙◌, subst, ⊎_elim, arith}
 use mathlib.Core.Bool.{or_assoc}
-use Rattle.std.specs.List.{slice_get}
+use Rattle.std.specs.List.{slice_get, find, position_or_len}
+use Rattle.std.proofs.lemmas.Grind.{common_steps}
+use Rattle.std.proofs.lemmas.Option.{gets, slice_get_within, get_or_from_slice_get}
+use Rattle.std.proofs.lemmas.List.Folds.{find_at}
+use Rattle.std.proofs.lemmas.List.Sums.{passes_at_first}
 use Rattle.std.proofs.lemmas.List.{reverse-append, length-take}
 use Rattle.std.proofs.lemmas.Bool.{or_cases, both_ways, cases_Bool, and_parts, eqb-true, cond-true, cond-false}
 use Rattle.strikes.specs.declared.strike.Strike.{Strike}
@@ -15,33 +19,25 @@ struck_append [] ys s t = refl
 struck_append (x ∷ xs) ys s t = ap (λ b. names x s t || b) (struck_append xs ys s t) ∙ sym (or_assoc (names x s t) (struck xs s t) (struck ys s t))
 
 pub nth_take : (xs : List Strike) (n i : ℕ) → i < n → slice_get (take n xs) i ≡ slice_get xs i
-nth_take [] zero i h = absurd (omega arith)
-nth_take [] (suc n) i h = refl
-nth_take (x ∷ xs) zero i h = absurd (omega arith)
-nth_take (x ∷ xs) (suc n) zero h = refl
-nth_take (x ∷ xs) (suc n) (suc i) h = nth_take xs n i (omega arith)
+nth_take xs n i h = grind (arith, common_steps, gets)
+
+-- the first that names a pair is the first found
+pub find_naming : (ks : List Strike) (s t : ℕ) → find (λ k. names k s t) ks ≡ first_naming ks s t
+find_naming [] s t = refl
+find_naming (k ∷ ks) s t = ap (cond (names k s t) (Some k)) (find_naming ks s t)
 
 -- where the first record of a pair is
-naming_place : (xs : List Strike) (s t : ℕ) (k : Strike) → first_naming xs s t ≡ Some k → (i : ℕ) × (i < length xs) × (slice_get xs i ≡ Some k) × (k.first ≡ s) × (k.second ≡ t)
-naming_place [] s t k e = let z : ◌≡◌ {A = ℕ} 0 1 = cc in absurd (omega arith)
-naming_place (x ∷ xs) s t k e =
-    ⊎_elim
-    (λ yes.
-    let is : Some x ≡ Some k = sym (cond-true (names x s t) (Some x) (first_naming xs s t) yes) ∙ e in
-    let same : x ≡ k = cc in
-    let p = and_parts (eqb x.first s) (eqb x.second t) yes in
-    (0, omega arith, is, ap (λ y. y.first) (sym same) ∙ eqb-true x.first s p.0, ap (λ y. y.second) (sym same) ∙ eqb-true x.second t p.1))
-    (λ other.
-    let r = naming_place xs s t k (sym (cond-false (names x s t) (Some x) (first_naming xs s t) other) ∙ e) in
-    (suc r.0, omega (arith, r.1), r.2, r.3, r.4))
-    (cases_Bool (names x s t))
-
 pub naming_record : (mem : Memory) (s t : ℕ) (k : Strike) → first_naming (take mem.made mem.records) s t ≡ Some k →
     (i : ℕ) × (i < mem.made) × (slice_get mem.records i ≡ Some k) × (i < length mem.records) × (k.first ≡ s) × (k.second ≡ t)
 naming_record mem s t k e =
-    let r = naming_place (take mem.made mem.records) s t k e in
-    let early : r.0 < mem.made = omega (arith, r.1, length-take mem.made mem.records) in
-    (r.0, early, sym (nth_take mem.records mem.made r.0 early) ∙ r.2, omega (arith, r.1, length-take mem.made mem.records), r.3, r.4)
+    let xs = take mem.made mem.records in
+    let i = position_or_len (λ x. names x s t) xs in
+    let at : slice_get xs i ≡ Some k = sym (find_at (λ x. names x s t) xs) ∙ find_naming xs s t ∙ e in
+    let low : i < length xs = slice_get_within xs i k at in
+    let named = subst (λ x. names x s t ≡ true) (get_or_from_slice_get xs i k k at) (passes_at_first (λ x. names x s t) xs k low) in
+    let same = and_parts (eqb k.first s) (eqb k.second t) named in
+    let early : i < mem.made = omega (arith, low, length-take mem.made mem.records) in
+    (i, early, sym (nth_take mem.records mem.made i early) ∙ at, omega (arith, low, length-take mem.made mem.records), eqb-true k.first s same.0, eqb-true k.second t same.1)
 
 -- a struck pair has a record
 pub naming_there : (xs : List Strike) (s t : ℕ) → struck (reverse xs) s t ≡ true → is_some (first_naming xs s t) ≡ true

@@ -1,15 +1,14 @@
 -- A pass that strikes nothing leaves no pair with a ground, so settling makes a stable sheet. Assumes nothing.
-use Rattle.std.proofs.Common.{◌≡◌, ℕ, zero, suc, ◌+◌, ◌*◌, ◌<◌, Bool, true, false, T, eqb, List, Some, None, Option, sym, refl, ap, ◌∙◌, subst, ⊎_elim, add-one, arith}
-use Rattle.std.proofs.lemmas.Bool.{cases_Bool, cases_eq, both_ways, eqb-true, eqb-false, eq-eqb}
+use Rattle.std.proofs.Common.{◌≡◌, ℕ, zero, suc, ◌+◌, ◌*◌, ◌<◌, Bool, true, false, T, eqb, List, None, sym, refl, ap, ◌∙◌, subst, ⊎_elim, add-one, arith}
+use Rattle.std.proofs.lemmas.Bool.{cases_eq, both_ways, eqb-true, eqb-false, eq-eqb}
 use Rattle.model.specs.Machines.{Bounded}
 use Rattle.model.proofs.Tests.{holds_true}
-use Rattle.strikes.specs.declared.strike.Ground.{Ground}
 use Rattle.strikes.specs.Strikes.{Stable}
 use Rattle.sheet.specs.Memory.{Memory, stands, history}
-use Rattle.sheet.specs.Verdicts.{Setting, size, judged, applied, ground_of, tried, swept, passed, next, settled_in, settled}
+use Rattle.sheet.specs.Verdicts.{Setting, size, applied, ground_of, tried, swept, passed, next, settled_in, settled}
 use Rattle.sheet.specs.Genuine.{Genuine, Grown}
 use Rattle.sheet.proofs.Grounds.{no_ground}
-use Rattle.sheet.proofs.Readiness.{made_tried, made_swept, made_passed, made_few, tried_stood, tried_struck}
+use Rattle.sheet.proofs.Readiness.{made_tried, made_swept, made_passed, made_few, by_verdict}
 use Rattle.sheet.proofs.Agreement.{strikes_to_bytes}
 use Rattle.sheet.proofs.Growing.{grown_then, grown_passed, genuine_passed, rests_passed}
 
@@ -18,19 +17,10 @@ module _ {L : Type 0} (on : Setting L) where
   abbrev pub Quiet : List ℕ → ℕ → ℕ → Type 0
   Quiet pairs s t = stands (size on) pairs s t ≡ true → ground_of on pairs s t ≡ None
 
-  quiet_judged : (mem : Memory) (s t : ℕ) (o : Option Ground) → (applied (size on) mem (judged s t o)).made ≡ mem.made → (applied (size on) mem (judged s t o) ≡ mem) × (o ≡ None)
-  quiet_judged mem s t None e = (refl, refl)
-  quiet_judged mem s t (Some g) e = absurd (omega arith)
-
   quiet_tried : (mem : Memory) (s t : ℕ) → (tried on mem s t).made ≡ mem.made → (tried on mem s t ≡ mem) × Quiet mem.pairs s t
-  quiet_tried mem s t e =
-      ⊎_elim
-      (λ stood.
-      let is = tried_stood on mem s t stood in
-      let q = quiet_judged mem s t (ground_of on mem.pairs s t) (ap (λ x. x.made) (sym is) ∙ e) in
-      (is ∙ q.0, λ _. q.1))
-      (λ gone. (tried_struck on mem s t gone, λ stood. absurd (both_ways _ gone stood)))
-      (cases_Bool (stands (size on) mem.pairs s t))
+  quiet_tried mem s t =
+      by_verdict on mem.pairs s t (λ v. (applied (size on) mem v).made ≡ mem.made → (applied (size on) mem v ≡ mem) × Quiet mem.pairs s t)
+      (λ gone _. (refl, λ stood. absurd (both_ways _ gone stood))) (λ _ none _. (refl, λ _. none)) (λ g _ _ e. absurd (omega arith))
 
   quiet_swept : (mem : Memory) (s t : ℕ) → (swept on mem s t).made ≡ mem.made → (swept on mem s t ≡ mem) × ((u : ℕ) → u < t → Quiet mem.pairs s u)
   quiet_swept mem s zero e = (refl, λ u l. absurd (omega arith))

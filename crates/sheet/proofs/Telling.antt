@@ -1,9 +1,9 @@
 -- What stands, classes and records tell, where the memory is genuine. Assumes nothing.
-use Rattle.std.proofs.Common.{◌≡◌, ℕ, zero, suc, ◌+◌, ◌<◌, ◌≤◌, Bool, true, false, T, ◌↔◌, List, [], ◌∷◌, ◌++◌, reverse, length, get_or, take, drop, Some, sym, ap, ◌∙◌, subst, ⊎_elim, arith}
+use Rattle.std.proofs.Common.{◌≡◌, ℕ, ◌+◌, ◌<◌, Bool, true, false, T, ◌↔◌, List, [], ◌∷◌, ◌++◌, reverse, length, get_or, take, drop, Some, sym, ap, ◌∙◌, subst, ⊎_elim, arith}
 use Rattle.std.specs.List.{slice_get}
 use Rattle.std.proofs.lemmas.List.{reverse-append, take_more, take-take, take-append-drop, take-append-le, take_all}
 use Rattle.std.proofs.lemmas.Option.{slice_get-get_or}
-use Rattle.std.proofs.lemmas.Bool.{cases_lt, cases_Bool, and_parts, and_from, both_ways, not-false, cond-true, cond-false}
+use Rattle.std.proofs.lemmas.Bool.{cases_lt, and_parts, and_from, both_ways, not-false}
 use Rattle.model.specs.Orders.{Preorder}
 use Rattle.model.specs.Machines.{Bounded}
 use Rattle.model.proofs.Tests.{holds_true, true_holds}
@@ -21,12 +21,12 @@ use Rattle.strikes.proofs.Telling.{strikes_tell}
 use Rattle.strikes.proofs.Stability.{stable_simulation}
 use Rattle.strikes.proofs.Largest.{simulation_stands}
 use Rattle.sheet.specs.Memory.{Memory, stands, history}
-use Rattle.sheet.specs.Verdicts.{Setting, size, least}
+use Rattle.sheet.specs.Verdicts.{Setting, size}
 use Rattle.sheet.specs.Genuine.{Genuine}
 use Rattle.sheet.specs.Tells.{IsStruck, Represents, Shown, Answering, Largest}
 use Rattle.sheet.specs.Calls.{are_alike, class_of}
-use Rattle.sheet.proofs.Judging.{row_stands}
-use Rattle.sheet.proofs.Grounds.{least_has, least_before}
+use Rattle.until.proofs.RowBytes.{row_is_marked}
+use Rattle.sheet.proofs.Grounds.{First, least_first}
 
 -- the strikes before one, that one, and those after it
 pub history_split : (mem : Memory) (place : ℕ) (k : Strike) → place < mem.made → slice_get mem.records place ≡ Some k → place < length mem.records
@@ -76,22 +76,18 @@ module _ {L : Type 0} (on : Setting L) (bounded : Bounded on.machine) (laws : Pr
     same_alike s u hs hu same =
         and_from _ _ (holds_true _ ((stands_entails s u hs hu).1 (λ F. (same F).0))) (holds_true _ ((stands_entails u s hu hs).1 (λ F. (same F).1)))
 
-    class_most : (p : ℕ → Bool) (n : ℕ) → least p n ≤ n
-    class_most p zero = omega arith
-    class_most p (suc n) = ⊎_elim (λ e. subst (λ x. x ≤ suc n) (sym (cond-true (p zero) zero (suc (least (λ i. p (suc i)) n)) e)) (omega arith)) (λ e. subst (λ x. x ≤ suc n) (sym (cond-false (p zero) zero (suc (least (λ i. p (suc i)) n)) e)) (omega (arith, class_most (λ i. p (suc i)) n))) (cases_Bool (p zero))
-
     -- the class number is the least state with the same formulas
     pub class_represents : (s : ℕ) → s < size on → Represents on s (class_of (size on) mem.pairs s)
     class_represents s hs = record {
-      state = omega (arith, most);
+      state = omega (arith, first.most);
       alike =
           ⊎_elim
-          (λ l. alike_same s c hs (omega (arith, most)) (least_has p s l))
-          (λ l. let e : s ≡ c = omega (arith, most) in subst (Same on.at_most on.machine s) e (λ F. (λ x. x, λ x. x)))
+          (λ l. alike_same s c hs (omega (arith, first.most)) (first.has l))
+          (λ l. let e : s ≡ c = omega (arith, first.most) in subst (Same on.at_most on.machine s) e (λ F. (λ x. x, λ x. x)))
           (cases_lt c s);
       least = λ u hu same.
           ⊎_elim
-          (λ l. absurd (both_ways _ (least_before p s u l) (same_alike s u hs hu same)))
+          (λ l. absurd (both_ways _ (first.before u l) (same_alike s u hs hu same)))
           (λ l. l)
           (cases_lt u c);
     }
@@ -102,8 +98,8 @@ module _ {L : Type 0} (on : Setting L) (bounded : Bounded on.machine) (laws : Pr
         c : ℕ
         c = class_of (size on) mem.pairs s
 
-        most : c ≤ s
-        most = class_most p s
+        first : First p s c
+        first = least_first p s
 
     pub stands_largest : Largest on mem.pairs
     stands_largest = record {
@@ -117,10 +113,10 @@ module _ {L : Type 0} (on : Setting L) (bounded : Bounded on.machine) (laws : Pr
     -- a row of bytes says what entails
     module _ (s : ℕ) (hs : s < size on) (v : ℕ) (hv : v < size on) where
       row_entails : Marked (row_of (size on) mem.pairs s) v → Entails on.at_most on.machine s v
-      row_entails x = (stands_entails s v hs hv).0 (subst T (row_stands (size on) mem.pairs s v hv) x)
+      row_entails x = (stands_entails s v hs hv).0 (subst T (row_is_marked (size on) mem.pairs s v hv) x)
 
       entails_row : Entails on.at_most on.machine s v → Marked (row_of (size on) mem.pairs s) v
-      entails_row x = subst T (sym (row_stands (size on) mem.pairs s v hv)) ((stands_entails s v hs hv).1 x)
+      entails_row x = subst T (sym (row_is_marked (size on) mem.pairs s v hv)) ((stands_entails s v hs hv).1 x)
 
     pub written_answers : (s t u k : ℕ) (before after : List ℕ) → s < size on → u < size on →
         Written on.machine (row_of (size on) mem.pairs s) (row_of (size on) mem.pairs u) t before after k → Answering on s t u k after

@@ -1,5 +1,6 @@
 -- The tests of each call on a sheet, in rising order of their numbers, as lists that its checks share. Assumes nothing.
-use Rattle.std.specs.Prelude.{ℕ, ◌*◌, Bool, false, not, ◌||◌, List, [], ◌∷◌, ◌++◌, length, is_some, ◌==◌, nat_lt}
+use Rattle.std.specs.Prelude.{ℕ, ◌*◌, Bool, not, List, [], ◌∷◌, ◌++◌, length, is_some, ◌==◌, nat_lt}
+use Rattle.std.specs.List.{list_any}
 use Rattle.model.specs.Machines.{Meaning, states}
 use Rattle.strikes.specs.declared.strike.Strike.{Strike}
 use Rattle.sheet.specs.declared.sheet.Sheet.{Sheet}
@@ -9,8 +10,7 @@ use Rattle.sheet.specs.Pages.{Page, short_pairs, short_records, outside, unlike,
 
 -- One of the numbers is no state of the sheet.
 abbrev pub any_outside : Sheet → List ℕ → Bool
-any_outside sheet [] = false
-any_outside sheet (s ∷ ss) = outside sheet s || any_outside sheet ss
+any_outside sheet numbers = list_any (outside sheet) numbers
 
 -- Whether it is no state, asked of each number in turn.
 abbrev pub number_tests : Sheet → List ℕ → List (Bool × ℕ)

@@ -15,26 +15,31 @@ impl Sheet {
     pub(crate) fn is_short(&self, len: usize) -> bool
         ensures { result ≡ nat_lt len (self.now.count * self.now.count) }
     {
-        match self.count.checked_mul(self.count) {
-            Some(all) => len < all,
-            None => true,
-        }
+        self.count
+            .checked_mul(self.count)
+            .is_none_or(|all| len < all)
     }
 
     /// Whether one of the numbers is no state.
     fn is_any_outside(&self, numbers: &[usize]) -> bool
         ensures { result ≡ any_outside self.now numbers.now }
     {
-        for s in numbers {
-            if *s >= self.count {
-                return true;
-            }
-        }
-        false
+        numbers.iter().any(|s| *s >= self.count)
+    }
+
+    /// Whether the sheet is not the machine's, or its strikes and the standing pairs do not add up.
+    fn is_unlike<M: Machine>(&self, machine: &M, pairs: &[u8]) -> bool
+        requires { self.now.count * self.now.count ≤ length pairs.now }
+        ensures { result ≡ unlike (states (M.Machine.meaning machine.now)) self.now pairs.now }
+    {
+        let n = machine.count();
+        let all = n * n;
+        self.count == 0 || self.count != n || self.strikes != all - count_standing(&pairs[..all])
     }
 
     /// Refuses short pair memory, then a number that is no state, then a sheet of another count or that
     /// does not add up.
+    #[tactic(auto, using(crate::proofs::Causes::numbers_cause))]
     fn check<M: Machine>(&self, machine: &M, pairs: &[u8], numbers: &[usize]) -> Result<(), Refusal>
         ensures { Passes (sheet_tests (states (M.Machine.meaning machine.now)) self.now pairs.now numbers.now) result }
     {
@@ -44,7 +49,7 @@ impl Sheet {
         if self.is_any_outside(numbers) {
             return Err(Refusal::NoSuchState);
         }
-        if is_unlike(machine, self, pairs) {
+        if self.is_unlike(machine, pairs) {
             return Err(Refusal::OtherSheet);
         }
         Ok(())
@@ -67,6 +72,7 @@ impl Sheet {
     }
 
     /// The same without strike memory, and refuses a sheet that is not settled.
+    #[tactic(auto, using(crate::proofs::Causes::cause_append))]
     pub(crate) fn check_settled<M: Machine>(
         &self,
         machine: &M,
@@ -83,30 +89,10 @@ impl Sheet {
     }
 }
 
-/// How many of the first `k` pairs stand.
-fn count_standing(pairs: &[u8], k: usize) -> usize
-    requires { k ≤ length pairs.now }
-    ensures counted { result ≡ standing k pairs.now }
-    ensures most { result ≤ k }
+/// How many of the pairs stand.
+fn count_standing(pairs: &[u8]) -> usize
+    ensures counted { result ≡ standing (length pairs.now) pairs.now }
+    ensures most { result ≤ length pairs.now }
 {
-    let mut sum = 0;
-    for i in 0..k {
-        if pairs[i] != 0 {
-            sum += 1;
-        }
-    }
-    sum
-}
-
-/// Whether the sheet is not the machine's, or its strikes and the standing pairs do not add up.
-pub(crate) fn is_unlike<M: Machine>(machine: &M, sheet: &Sheet, pairs: &[u8]) -> bool
-    requires { sheet.now.count * sheet.now.count ≤ length pairs.now }
-    ensures { result ≡ unlike (states (M.Machine.meaning machine.now)) sheet.now pairs.now }
-{
-    let n = machine.count();
-    if sheet.count == 0 || sheet.count != n {
-        return true;
-    }
-    let all = n * n;
-    sheet.strikes != all - count_standing(pairs, all)
+    pairs.iter().filter(|byte| **byte != 0).count()
 }

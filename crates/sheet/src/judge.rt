@@ -1,27 +1,22 @@
-//! The ground on which a standing pair may be struck.
-ghost use Rattle.std.specs.Prelude.{◌≡◌, ◌<◌};
+//! The ground on which a standing pair may be struck. Bytes and no `bool`s say what stands, as lent memory holds them.
+ghost use Rattle.std.specs.Prelude.{◌≡◌, ◌<◌, ℕ};
 ghost use Rattle.model.specs.Machines.{states, label_of};
 ghost use Rattle.strikes.specs.Simulations.{under};
-ghost use Rattle.sheet.specs.Verdicts.{setting, least_unanswered, ground_of};
+ghost use Rattle.until.specs.Rows.{row_of};
+ghost use Rattle.until.specs.Searches.{Reached};
+ghost use Rattle.sheet.specs.Verdicts.{setting, unanswered, least_unanswered, ground_of};
 
+use crate::setting::Setting;
 use model::{Machine, Order, State};
 use strikes::Ground;
-use until::{marked, reached, row};
+use until::{Rows, meets, reached};
 
-/// Whether the label of `s` is at most that of `t`.
-fn labels_agree<M: Machine, O: Order<Label = M::Label>>(
-    machine: &M,
-    order: &O,
-    s: usize,
-    t: usize,
-) -> bool
-    ensures { result ≡ under (O.Order.relation order.now) (label_of (M.Machine.meaning machine.now) s) (label_of (M.Machine.meaning machine.now) t) }
+/// Whether `s` steps to `u`, and none of the ends of walks is marked in the row of `u`.
+fn is_unanswered<M: Machine>(machine: &M, rows: Rows, ends: &[bool], s: usize, u: usize) -> bool
+    requires { rows.width ≡ states (M.Machine.meaning machine.now) }
+    ensures { (t : ℕ) → t < states (M.Machine.meaning machine.now) → Reached (M.Machine.meaning machine.now) (row_of rows.entry.width rows.entry.bytes.now s) t ends.now → result ≡ unanswered (M.Machine.meaning machine.now) rows.entry.bytes.now s t u }
 {
-    match (machine.label(s), machine.label(t)) {
-        (Some(a), Some(b)) => order.at_most(&a, &b),
-        (None, _) => true,
-        (Some(_), None) => false,
-    }
+    machine.has_step(s, u) && !meets(ends, rows.row(u))
 }
 
 /// The least state that `s` steps to and that no walk from `t` answers.
@@ -30,40 +25,33 @@ fn least_unanswered<M: Machine>(machine: &M, pairs: &[u8], s: usize, t: usize) -
     ensures { result ≡ least_unanswered (M.Machine.meaning machine.now) pairs.now s t }
 {
     let n = machine.count();
-    let ends = reached(machine, row(pairs, n, s), t);
-    let unanswered = 'search: {
-        'steps: for u in 0..n {
-            if machine.has_step(s, u) {
-                let goal = row(pairs, n, u);
-                for v in 0..n {
-                    if ends[v] && marked(goal, v) {
-                        continue 'steps;
-                    }
-                }
-                break 'search Some(u as State);
-            }
-        }
-        None
+    let rows = Rows {
+        bytes: pairs,
+        width: n,
     };
-    unanswered
+    let ends = reached(machine, rows.row(s), t);
+    (0..n)
+        .find(|u| is_unanswered(machine, rows, &ends, s, *u))
+        .map(|u| u as State)
 }
 
-/// The ground to strike the pair (s, t) on, where it stands: by label, or by the least unanswered step.
-pub(crate) fn ground_of<M: Machine, O: Order<Label = M::Label>>(
-    machine: &M,
-    order: &O,
-    pairs: &[u8],
-    s: usize,
-    t: usize,
-) -> Option<Ground>
-    requires { t < states (M.Machine.meaning machine.now) }
-    ensures { result ≡ ground_of (setting (O.Order.relation order.now) (M.Machine.meaning machine.now)) pairs.now s t }
-{
-    if !labels_agree(machine, order, s, t) {
-        return Some(Ground::ByLabel);
+impl<'a, M: Machine, O: Order<Label = M::Label>> Setting<'a, M, O> {
+    /// Whether the label of `s` is at most that of `t`.
+    fn labels_agree(&self, s: usize, t: usize) -> bool
+        ensures { result ≡ under (O.Order.relation self.now.order.now) (label_of (M.Machine.meaning self.now.machine.now) s) (label_of (M.Machine.meaning self.now.machine.now) t) }
+    {
+        let Setting { machine, order } = self;
+        machine.label(s).is_none_or(|a| machine.label(t).is_some_and(|b| order.at_most(&a, &b)))
     }
-    match least_unanswered(machine, pairs, s, t) {
-        Some(u) => Some(Ground::ByStep(u)),
-        None => None,
+
+    /// The ground to strike the pair (s, t) on, where it stands: by label, or by the least unanswered step.
+    pub(crate) fn ground_of(&self, pairs: &[u8], s: usize, t: usize) -> Option<Ground>
+        requires { t < states (M.Machine.meaning self.now.machine.now) }
+        ensures { result ≡ ground_of (setting (O.Order.relation self.now.order.now) (M.Machine.meaning self.now.machine.now)) pairs.now s t }
+    {
+        if !self.labels_agree(s, t) {
+            return Some(Ground::ByLabel);
+        }
+        least_unanswered(self.machine, pairs, s, t).map(Ground::ByStep)
     }
 }

@@ -1,21 +1,26 @@
 //! The sheet: pairs of states struck with a reason, until no more can be struck.
+//!
+//! Some things are passed as they are. States are plain numbers, two for a pair: those of a call are not yet known to be
+//! states, and the definitions read lists by them; a type of checked numbers would carry its machine in each. Pair bytes
+//! and strikes are lent for one call, each by itself, since some calls take no strikes and some no order.
 #![tactic(auto)]
 
-pub mod calls;
+mod calls;
 mod checks;
 mod judge;
 mod lookup;
 pub mod memory;
 pub mod request;
 pub mod run;
+pub mod setting;
 pub mod sheet;
 mod striking;
 pub mod verdict;
 mod walking;
 
-pub use calls::{answer, begin, below, class, reason, settle, sweep, try_pair};
 pub use memory::{StrikeMemory, StrikeSlice};
 pub use request::{Reply, Request};
 pub use run::run_requests;
+pub use setting::Setting;
 pub use sheet::Sheet;
 pub use verdict::Verdict;

@@ -1,5 +1,5 @@
 //! What pair bytes and strike records hold of a pair.
-ghost use Rattle.std.specs.Prelude.{◌≡◌, ◌*◌, ◌<◌, ◌≤◌, length, take};
+ghost use Rattle.std.specs.Prelude.{◌≡◌, ◌<◌, take};
 ghost use Rattle.sheet.specs.Pages.{page, first_naming};
 ghost use Rattle.sheet.specs.Calls.{are_alike, class_of, ShowsRecord};
 
@@ -7,67 +7,60 @@ use crate::memory::StrikeMemory;
 use crate::sheet::Sheet;
 use model::Refusal;
 use strikes::Strike;
-use until::marked;
+use until::Rows;
 
 /// Whether `s` and `u` stand both ways.
-pub(crate) fn alike(pairs: &[u8], n: usize, s: usize, u: usize) -> bool
-    requires first { s < n }
-    requires second { u < n }
-    requires room { n * n ≤ length pairs.now }
-    ensures { result ≡ are_alike n pairs.now s u }
+fn alike(rows: Rows, s: usize, u: usize) -> bool
+    requires first { s < rows.width }
+    requires second { u < rows.width }
+    ensures { result ≡ are_alike rows.entry.width rows.entry.bytes.now s u }
 {
-    marked(pairs, s * n + u) && marked(pairs, u * n + s)
+    rows.is_marked(s, u) && rows.is_marked(u, s)
 }
 
 /// The smallest state that is `s` or stands both ways with `s`.
-pub(crate) fn class_of(pairs: &[u8], n: usize, s: usize) -> usize
-    requires state { s < n }
-    requires room { n * n ≤ length pairs.now }
-    ensures { result ≡ class_of n pairs.now s }
+pub(crate) fn class_of(rows: Rows, s: usize) -> usize
+    requires { s < rows.width }
+    ensures { result ≡ class_of rows.entry.width rows.entry.bytes.now s }
 {
-    for u in 0..s {
-        if alike(pairs, n, s, u) {
-            return u;
-        }
-    }
-    s
+    (0..s).find(|u| alike(rows, s, *u)).unwrap_or(s)
 }
 
 /// The first of the first `made` records that names the pair (s, t).
-pub(crate) fn first_naming<S: StrikeMemory>(
-    strikes: &S,
-    made: usize,
-    s: usize,
-    t: usize,
-) -> Option<Strike>
+fn first_naming<S: StrikeMemory>(strikes: &S, made: usize, s: usize, t: usize) -> Option<Strike>
     ensures { result ≡ first_naming (take made (S.StrikeMemory.records strikes.now)) s t }
 {
-    for k in 0..made {
-        let Some(strike) = strikes.record(k) else {
-            return None;
-        };
-        if strike.names(s, t) {
-            return Some(strike);
-        }
-    }
-    None
+    (0..made)
+        .map_while(|k| strikes.record(k))
+        .find(|strike| strike.names(s, t))
 }
 
-/// The first record of the pair (s, t), where it is struck.
-pub(crate) fn record_of<S: StrikeMemory>(
-    sheet: &Sheet,
-    pairs: &[u8],
-    strikes: &S,
-    s: usize,
-    t: usize,
-) -> Result<Strike, Refusal>
-    requires first { s < sheet.now.count }
-    requires second { t < sheet.now.count }
-    requires room { sheet.now.count * sheet.now.count ≤ length pairs.now }
-    ensures { ShowsRecord sheet.now.count (page sheet.now pairs.now (S.StrikeMemory.records strikes.now)) s t result }
-{
-    if marked(pairs, s * sheet.count + t) {
-        return Err(Refusal::OtherPair);
+impl Sheet {
+    /// The pair bytes, a row for each state.
+    pub(crate) fn rows<'a>(&self, pairs: &'a [u8]) -> Rows<'a>
+        ensures width { result.width ≡ self.now.count }
+        ensures bytes { result.bytes.now ≡ pairs.now }
+    {
+        Rows {
+            bytes: pairs,
+            width: self.count,
+        }
     }
-    first_naming(strikes, sheet.strikes, s, t).ok_or(Refusal::OtherPair)
+
+    /// The first record of the pair (s, t), where it is struck.
+    pub(crate) fn record_of<S: StrikeMemory>(
+        &self,
+        pairs: &[u8],
+        strikes: &S,
+        s: usize,
+        t: usize,
+    ) -> Result<Strike, Refusal>
+        requires { t < self.now.count }
+        ensures { ShowsRecord self.now.count (page self.now pairs.now (S.StrikeMemory.records strikes.now)) s t result }
+    {
+        if self.rows(pairs).is_marked(s, t) {
+            return Err(Refusal::OtherPair);
+        }
+        first_naming(strikes, self.strikes, s, t).ok_or(Refusal::OtherPair)
+    }
 }

@@ -53,17 +53,14 @@ impl<'a> StrikeMemory for StrikeSlice<'a> {
     fn record(&self, k: usize) -> Option<Strike>
         ensures { result ≡ slice_get self.now.items.now k }
     {
-        if k < self.items.len() {
-            Some(self.items[k])
-        } else {
-            None
-        }
+        self.items.get(k).copied()
     }
 
     fn write(&mut self, k: usize, strike: Strike)
         ensures written { self.new.items.now ≡ slice_set self.old.items.now k strike }
         ensures same { self.new.items.ghost_name ≡ self.old.items.ghost_name }
     {
+        // By index, since no contract says what a place that `get_mut` lent holds once it is written.
         if k < self.items.len() {
             self.items[k] = strike;
         }

@@ -1,13 +1,14 @@
-//! Requests of a run, and the replies to them.
+//! Requests of a run, and the good replies to them.
 ghost use Rattle.std.specs.Prelude.{◌≡◌};
-ghost use Rattle.sheet.specs.Replies.{reply};
+ghost use Rattle.std.specs.Option.{option_map};
+ghost use Rattle.sheet.specs.Replies.{walk_of};
 
 use crate::verdict::Verdict;
-use model::{Refusal, STATE_BOUND, State};
+use model::{STATE_BOUND, State};
 use strikes::Strike;
 
 /// A call to make on a sheet.
-#[derive(Clone, Copy)]
+#[derive(Clone, Copy, PartialEq, Eq, Debug)]
 pub enum Request {
     /// Try the pair (s, t).
     Try(usize, usize),
@@ -24,10 +25,9 @@ pub enum Request {
     Answer(usize, usize, usize),
 }
 
-/// What a call replied.
+/// What a call replied, where it was not refused.
 #[derive(Clone, Copy, PartialEq, Eq, Debug)]
 pub enum Reply {
-    Refused(Refusal),
     Tried(Verdict),
     /// How many pairs were struck.
     Swept(usize),
@@ -36,18 +36,22 @@ pub enum Reply {
     ClassIs(usize),
     IsBelow(bool),
     ReasonIs(Strike),
-    /// How many states the walk has, and the states.
-    Walked(usize, [State; STATE_BOUND]),
+    /// A walk: how many states it has, and memory that begins with them. An array with its count: a reply
+    /// is `Copy`, and the vector in place of the toolchain is not.
+    Walked {
+        places: usize,
+        states: [State; STATE_BOUND],
+    },
 }
 
 impl Reply {
-    /// The reply of a call that answers well or refuses.
-    pub fn of(answer: Result<Reply, Refusal>) -> Reply
-        ensures { result ≡ reply (λ a. a) answer }
+    /// The states of the walk that was written, where this is such a reply and its memory has as many.
+    pub fn walk(&self) -> Option<&[State]>
+        ensures { option_map (λ states. states.now) result ≡ walk_of self.now }
     {
-        match answer {
-            Ok(reply) => reply,
-            Err(refusal) => Reply::Refused(refusal),
+        match self {
+            Reply::Walked { places, states } => states.get(..*places),
+            _ => None,
         }
     }
 }

@@ -1,85 +1,84 @@
 //! Runs: a list of requests, made in turn on one sheet.
 ghost use Rattle.sheet.specs.Verdicts.{setting};
 ghost use Rattle.sheet.specs.Pages.{page};
-ghost use Rattle.sheet.specs.Replies.{reply, Walks, RepliesInto};
+ghost use Rattle.sheet.specs.Replies.{Walks, RepliesInto};
 ghost use Rattle.sheet.specs.Runs.{Runs, blank_walk};
 
-use crate::calls::{answer, begin, below, class, reason, settle, sweep, try_pair};
 use crate::memory::StrikeMemory;
 use crate::request::{Reply, Request};
+use crate::setting::Setting;
 use crate::sheet::Sheet;
 use model::{Machine, Order, Refusal, STATE_BOUND};
 
-/// Answers into memory of its own, and names the good answer.
-fn walk<M: Machine>(
-    machine: &M,
-    sheet: &Sheet,
-    pairs: &[u8],
-    s: usize,
-    t: usize,
-    u: usize,
-) -> Result<Reply, Refusal>
-    ensures { Walks (M.Machine.meaning machine.now) blank_walk sheet.now pairs.now s t u (reply (λ a. a) result) }
-{
-    let mut walk = [0; STATE_BOUND];
-    let places = answer(machine, sheet, pairs, s, t, u, &mut walk)?;
-    Ok(Reply::Walked(places, walk))
-}
+impl Sheet {
+    /// Answers into memory of its own, and names the good answer.
+    fn walk<M: Machine>(
+        &self,
+        machine: &M,
+        pairs: &[u8],
+        s: usize,
+        t: usize,
+        u: usize,
+    ) -> Result<Reply, Refusal>
+        ensures { Walks (M.Machine.meaning machine.now) blank_walk self.now pairs.now s t u result }
+    {
+        let mut states = [0; STATE_BOUND];
+        self.answer(machine, pairs, s, t, u, &mut states)
+            .map(|places| Reply::Walked { places, states })
+    }
 
-/// Makes the call of a request, and names its good answer.
-fn make<M: Machine, O: Order<Label = M::Label>, S: StrikeMemory>(
-    machine: &M,
-    order: &O,
-    sheet: &mut Sheet,
-    pairs: &mut [u8],
-    strikes: &mut S,
-    request: Request,
-) -> Result<Reply, Refusal>
-    ensures answer { RepliesInto (setting (O.Order.relation order.now) (M.Machine.meaning machine.now)) blank_walk (page sheet.old pairs.old (S.StrikeMemory.records strikes.old)) request (reply (λ a. a) result) (page sheet.new pairs.new (S.StrikeMemory.records strikes.new)) }
-    ensures same { S.StrikeMemory.same strikes.old strikes.new }
-{
-    match request {
-        Request::Try(s, t) => {
-            let verdict = try_pair(machine, order, sheet, pairs, strikes, s, t)?;
-            Ok(Reply::Tried(verdict))
+    /// Makes the call of a request, and names its good answer. It is matched, since the
+    /// law over runs speaks of requests as data.
+    fn make<M: Machine, O: Order<Label = M::Label>, S: StrikeMemory>(
+        &mut self,
+        on: &Setting<M, O>,
+        pairs: &mut [u8],
+        strikes: &mut S,
+        request: Request,
+    ) -> Result<Reply, Refusal>
+        ensures answer { RepliesInto (setting (O.Order.relation on.now.order.now) (M.Machine.meaning on.now.machine.now)) blank_walk (page self.old pairs.old (S.StrikeMemory.records strikes.old)) request result (page self.new pairs.new (S.StrikeMemory.records strikes.new)) }
+        ensures same { S.StrikeMemory.same strikes.old strikes.new }
+    {
+        match request {
+            Request::Try(s, t) => { self.try_pair(on, pairs, strikes, s, t).map(Reply::Tried) }
+            Request::Sweep(s) => self.sweep(on, pairs, strikes, s).map(Reply::Swept),
+            Request::Settle => {
+                let (struck, passes) = self.settle(on, pairs, strikes)?;
+                Ok(Reply::Settled(struck, passes))
+            }
+            Request::Class(s) => self.class(on.machine, pairs, s).map(Reply::ClassIs),
+            Request::Below(s, t) => self.below(on.machine, pairs, s, t).map(Reply::IsBelow),
+            Request::Reason(s, t) => {
+                self.reason(on.machine, pairs, strikes, s, t)
+                    .map(Reply::ReasonIs)
+            }
+            Request::Answer(s, t, u) => self.walk(on.machine, pairs, s, t, u),
         }
-        Request::Sweep(s) => {
-            let struck = sweep(machine, order, sheet, pairs, strikes, s)?;
-            Ok(Reply::Swept(struck))
-        }
-        Request::Settle => {
-            let (struck, passes) = settle(machine, order, sheet, pairs, strikes)?;
-            Ok(Reply::Settled(struck, passes))
-        }
-        Request::Class(s) => Ok(Reply::ClassIs(class(machine, sheet, pairs, s)?)),
-        Request::Below(s, t) => Ok(Reply::IsBelow(below(machine, sheet, pairs, s, t)?)),
-        Request::Reason(s, t) => Ok(Reply::ReasonIs(reason(machine, sheet, pairs, strikes, s, t)?)),
-        Request::Answer(s, t, u) => walk(machine, sheet, pairs, s, t, u),
     }
 }
 
 /// Begins a sheet, makes the calls of all requests on it in turn, and writes every reply in its place. The
 /// rest of the reply memory is untouched.
 pub fn run_requests<M: Machine, O: Order<Label = M::Label>, S: StrikeMemory>(
-    machine: &M,
-    order: &O,
+    on: &Setting<M, O>,
     pairs: &mut [u8],
     strikes: &mut S,
     requests: &[Request],
-    replies: &mut [Reply],
+    replies: &mut [Result<Reply, Refusal>],
 ) -> Result<Sheet, Refusal>
-    ensures answer { Runs (setting (O.Order.relation order.now) (M.Machine.meaning machine.now)) pairs.old (S.StrikeMemory.records strikes.old) requests.now replies.old result pairs.new (S.StrikeMemory.records strikes.new) replies.new }
+    ensures answer { Runs (setting (O.Order.relation on.now.order.now) (M.Machine.meaning on.now.machine.now)) pairs.old (S.StrikeMemory.records strikes.old) requests.now replies.old result pairs.new (S.StrikeMemory.records strikes.new) replies.new }
     ensures same { S.StrikeMemory.same strikes.old strikes.new }
 {
-    if machine.count() == 0 {
+    if on.machine.count() == 0 {
         return Err(Refusal::NoStates);
     }
     if replies.len() < requests.len() {
         return Err(Refusal::ShortMemory);
     }
-    let mut sheet = begin(machine, pairs, strikes)?;
-    for k in 0..requests.len() {
-        replies[k] = Reply::of(make(machine, order, &mut sheet, pairs, strikes, requests[k]));
+    let mut sheet = Sheet::begin(on.machine, pairs, strikes)?;
+    // By place: tried by `zip` with `iter_mut`, of whose writes nothing is known.
+    for (k, request) in requests.iter().enumerate() {
+        replies[k] = sheet.make(on, pairs, strikes, *request);
     }
     Ok(sheet)
 }

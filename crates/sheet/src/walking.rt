@@ -1,10 +1,10 @@
 //! Walks that answer a step.
-ghost use Rattle.std.specs.Prelude.{◌*◌, ◌<◌, ◌≤◌, length};
+ghost use Rattle.std.specs.Prelude.{◌<◌, ◌≤◌, length};
 ghost use Rattle.model.specs.Machines.{states};
 ghost use Rattle.sheet.specs.Calls.{WritesWalk};
 
 use model::{Machine, Refusal, State};
-use until::{marked, row, shortest_walk};
+use until::{Rows, shortest_walk};
 
 /// Writes a shortest walk from `t` that answers the step from `s` to `u`, and answers how many states it has.
 pub(crate) fn write_walk<M: Machine>(
@@ -15,18 +15,19 @@ pub(crate) fn write_walk<M: Machine>(
     u: usize,
     walk: &mut [State],
 ) -> Result<usize, Refusal>
-    requires first { s < states (M.Machine.meaning machine.now) }
-    requires second { t < states (M.Machine.meaning machine.now) }
-    requires room { states (M.Machine.meaning machine.now) * states (M.Machine.meaning machine.now) ≤ length pairs.now }
+    requires state { t < states (M.Machine.meaning machine.now) }
     requires places { states (M.Machine.meaning machine.now) ≤ length walk.old }
     ensures { WritesWalk (M.Machine.meaning machine.now) pairs.now s t u walk.old result walk.new }
 {
-    let n = machine.count();
-    if !marked(pairs, s * n + t) {
+    let rows = Rows {
+        bytes: pairs,
+        width: machine.count(),
+    };
+    if !rows.is_marked(s, t) {
         return Err(Refusal::OtherPair);
     }
     if !machine.has_step(s, u) {
         return Err(Refusal::NoSuchStep);
     }
-    shortest_walk(machine, row(pairs, n, s), row(pairs, n, u), t, walk)?.ok_or(Refusal::NoSuchStep)
+    shortest_walk(machine, rows.row(s), rows.row(u), t, walk)?.ok_or(Refusal::NoSuchStep)
 }

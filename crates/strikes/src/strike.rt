@@ -4,7 +4,7 @@ ghost use Rattle.strikes.specs.Strikes.{names as names_pair};
 
 use model::State;
 
-/// Why a pair of states is told apart.
+/// Why a pair of states is told apart. No `Option` of a state: both cases are grounds, and each has its own formula.
 #[derive(Clone, Copy, PartialEq, Eq, Debug)]
 pub enum Ground {
     /// The label of the first state is not at most that of the second.
@@ -22,7 +22,7 @@ pub struct Strike {
 }
 
 impl Strike {
-    /// Whether this strikes the pair (s, t).
+    /// Whether this strikes the pair (s, t), on whatever ground; so it is not the equality of strikes.
     pub fn names(&self, s: usize, t: usize) -> bool
         ensures { result ≡ names_pair self.now s t }
     {
