@@ -14,8 +14,8 @@ grade_of Fault = 2
 abbrev pub no_graver : Alarm → Alarm → Bool
 no_graver a b = nat_le (grade_of a) (grade_of b)
 
-pub no_no_graver_lawful : Preorder no_graver
-no_no_graver_lawful = record {
+pub no_graver_lawful : Preorder no_graver
+no_graver_lawful = record {
   reflexive = λ a. le→leb (grade_of a) (grade_of a) (le_refl (grade_of a));
   transitive = λ a b c p q. le→leb (grade_of a) (grade_of c) (le_trans (leb→le (grade_of a) (grade_of b) p) (leb→le (grade_of b) (grade_of c) q));
 }

@@ -1,6 +1,6 @@
 //! Sheets with their memory, for the examples of the sheet.
 use model::{FlagSet, Flags, Machine, Refusal, Table};
-use sheet::{Sheet, StrikeSlice, begin, settle};
+use sheet::{Setting, Sheet, StrikeSlice};
 use strikes::{Ground, Strike};
 
 pub(crate) const ONE: FlagSet = FlagSet { bits: 1 };
@@ -14,7 +14,7 @@ pub(crate) const BLANK: Strike = Strike {
 };
 
 /// A sheet with its memory: a place more than five states need.
-#[derive(Clone, Copy)]
+#[derive(Clone, Copy, PartialEq, Eq, Debug)]
 pub(crate) struct Page {
     pub(crate) sheet: Sheet,
     pub(crate) pairs: [u8; 26],
@@ -31,10 +31,6 @@ pub(crate) const SEVENS: Page = Page {
     pairs: [7; 26],
     records: [BLANK; 26],
 };
-
-pub(crate) fn same(a: &Page, b: &Page) -> bool {
-    a.sheet == b.sheet && a.pairs == b.pairs && a.records == b.records
-}
 
 pub(crate) fn strike(first: u8, second: u8, ground: Ground) -> Strike {
     Strike {
@@ -54,22 +50,19 @@ pub(crate) fn two_beside_one() -> Table<'static, FlagSet> {
     Table::new(&[ONE, TWO, ONE], &[0, 1, 0, 0, 0, 0, 0, 0, 0])
 }
 
-/// Its pairs that stand once it is settled.
-const STANDING: [u8; 9] = [1, 0, 0, 0, 1, 0, 1, 0, 1];
-
 /// Its page once settled.
 pub(crate) fn settled_page() -> Page {
     let mut page = SEVENS;
     page.sheet.strikes = 5;
     page.sheet.settled = true;
-    for i in 0..9 {
-        page.pairs[i] = STANDING[i];
-    }
-    page.records[0] = strike(0, 1, Ground::ByLabel);
-    page.records[1] = strike(1, 0, Ground::ByLabel);
-    page.records[2] = strike(1, 2, Ground::ByLabel);
-    page.records[3] = strike(2, 1, Ground::ByLabel);
-    page.records[4] = strike(0, 2, Ground::ByStep(1));
+    page.pairs[..9].copy_from_slice(&[1, 0, 0, 0, 1, 0, 1, 0, 1]);
+    page.records[..5].copy_from_slice(&[
+        strike(0, 1, Ground::ByLabel),
+        strike(1, 0, Ground::ByLabel),
+        strike(1, 2, Ground::ByLabel),
+        strike(2, 1, Ground::ByLabel),
+        strike(0, 2, Ground::ByStep(1)),
+    ]);
     page
 }
 
@@ -77,25 +70,15 @@ pub(crate) fn settled_page() -> Page {
 pub(crate) fn settled<M: Machine<Label = FlagSet>>(
     machine: &M,
 ) -> Result<(Page, (usize, usize)), Refusal> {
+    let on = Setting {
+        machine,
+        order: &Flags {},
+    };
     let mut page = SEVENS;
     let mut strikes = StrikeSlice {
         items: &mut page.records,
     };
-    page.sheet = begin(machine, &mut page.pairs, &strikes)?;
-    let made = settle(
-        machine,
-        &Flags {},
-        &mut page.sheet,
-        &mut page.pairs,
-        &mut strikes,
-    )?;
+    page.sheet = Sheet::begin(machine, &mut page.pairs, &strikes)?;
+    let made = page.sheet.settle(&on, &mut page.pairs, &mut strikes)?;
     Ok((page, made))
-}
-
-/// The number of a refusal, or 0 for none.
-pub(crate) fn number<T: Drop>(reply: Result<T, Refusal>) -> u8 {
-    match reply {
-        Ok(_) => 0,
-        Err(refusal) => refusal.number(),
-    }
 }

@@ -1,31 +1,30 @@
 //! An order of a buyer's own: alarms by how grave they are.
 ghost use Rattle.std.specs.Prelude.{◌≡◌};
-ghost use Rattle.examples.specs.Severity.{grade_of, no_graver, no_no_graver_lawful};
+ghost use Rattle.examples.specs.Severity.{grade_of, no_graver, no_graver_lawful};
 
 use model::Order;
 
-#[derive(Clone, Copy)]
+/// An alarm, the less grave before the graver.
+#[derive(Clone, Copy, PartialEq, Eq, PartialOrd, Ord, Debug)]
 pub enum Alarm {
     Quiet,
     Warning,
     Fault,
 }
 
-impl Alarm {
-    /// 0 for the least grave.
-    pub fn grade(self) -> u8
-        ensures { result ≡ grade_of self }
+/// How grave an alarm is: 0 for the least.
+impl From<Alarm> for u8 {
+    ghost from_gives = { λ alarm grade. grade ≡ grade_of alarm };
+
+    fn from(alarm: Alarm) -> u8
+        ensures { result ≡ grade_of alarm }
     {
-        match self {
-            Alarm::Quiet => 0,
-            Alarm::Warning => 1,
-            Alarm::Fault => 2,
-        }
+        alarm as u8
     }
 }
 
 /// A label is at most those that are at least as grave.
-#[derive(Clone, Copy)]
+#[derive(Clone, Copy, PartialEq, Eq, Debug)]
 pub struct Severity {}
 
 impl Order for Severity {
@@ -33,9 +32,9 @@ impl Order for Severity {
 
     ghost relation = { λ _. no_graver };
 
-    ghost lawful = { λ _. no_no_graver_lawful };
+    ghost lawful = { λ _. no_graver_lawful };
 
     fn at_most(&self, a: &Alarm, b: &Alarm) -> bool {
-        a.grade() <= b.grade()
+        a <= b
     }
 }

@@ -1,29 +1,27 @@
 //! Examples of the sheet, each proved and then run.
-use crate::pages::{
-    ONE, Page, SEVENS, TWO, number, same, settled, settled_page, strike, two, two_beside_one,
-};
+use crate::pages::{ONE, Page, SEVENS, TWO, settled, settled_page, strike, two, two_beside_one};
 use model::{Beside, FlagSet, Flags, Machine, Refusal, STATE_BOUND, Table, Trace};
-use sheet::{Reply, Request, StrikeSlice, Verdict, answer, below, class, run_requests};
+use sheet::{Reply, Request, Setting, StrikeSlice, Verdict, run_requests};
+use std::array;
 use std::test::Fail;
 use strikes::Ground;
 
 #[test]
 fn settles(rt: HostRuntime) -> Result<(), Fail> {
     let (page, made) = settled(&two_beside_one())?;
-    assert!(rt; made == (5, 3) && same(&page, &settled_page()));
+    assert!(rt; made == (5, 3) && page == settled_page());
     Ok(())
 }
 
-/// The strikes made and the passes taken, and the classes of the first five states; 9 where there is none.
+/// The strikes made and the passes taken, and the classes of the first five states.
 fn classes<M: Machine<Label = FlagSet>>(
     machine: &M,
-) -> Result<((usize, usize), [usize; 5]), Refusal> {
+) -> Result<((usize, usize), [Option<usize>; 5]), Refusal> {
     let (page, made) = settled(machine)?;
-    let mut all = [9; 5];
-    for s in 0..5 {
-        all[s] = class(machine, &page.sheet, &page.pairs, s).unwrap_or(9);
-    }
-    Ok((made, all))
+    Ok((
+        made,
+        array::from_fn(|s| page.sheet.class(machine, &page.pairs, s).ok()),
+    ))
 }
 
 /// Labels 1 and 2 with a step, beside labels 1, 1 and 2 with a step from each to the next.
@@ -38,7 +36,7 @@ fn five() -> Beside<Table<'static, FlagSet>, Table<'static, FlagSet>> {
 fn walk(s: usize, t: usize, u: usize) -> Result<(usize, [u8; 6]), Refusal> {
     let (page, _) = settled(&five())?;
     let mut walk = [9; 6];
-    let places = answer(&five(), &page.sheet, &page.pairs, s, t, u, &mut walk)?;
+    let places = page.sheet.answer(&five(), &page.pairs, s, t, u, &mut walk)?;
     Ok((places, walk))
 }
 
@@ -53,9 +51,9 @@ fn walks_may_stand_still(rt: HostRuntime) {
 #[test]
 fn classes_are_least(rt: HostRuntime) {
     assert!(rt;
-        classes(&five()) == Ok(((12, 2), [0, 1, 0, 0, 1]))
-            && classes(&two_beside_one()) == Ok(((5, 3), [0, 1, 2, 9, 9]))
-            && classes(&Table::new(&[ONE], &[0])) == Ok(((0, 1), [0, 9, 9, 9, 9]))
+        classes(&five()) == Ok(((12, 2), [Some(0), Some(1), Some(0), Some(0), Some(1)]))
+            && classes(&two_beside_one()) == Ok(((5, 3), [Some(0), Some(1), Some(2), None, None]))
+            && classes(&Table::new(&[ONE], &[0])) == Ok(((0, 1), [Some(0), None, None, None, None]))
     );
 }
 
@@ -66,7 +64,7 @@ fn is_below_two(labels: &[FlagSet]) -> Result<bool, Refusal> {
         right: two(),
     };
     let (page, _) = settled(&machine)?;
-    below(&machine, &page.sheet, &page.pairs, 0, labels.len())
+    page.sheet.below(&machine, &page.pairs, 0, labels.len())
 }
 
 #[test]
@@ -78,22 +76,19 @@ fn traces_are_below(rt: HostRuntime) {
 }
 
 /// What a place for a reply holds before a run.
-const UNSAID: Reply = Reply::Swept(99);
+const UNSAID: Result<Reply, Refusal> = Ok(Reply::Swept(99));
 
 /// The page of a run.
-fn ran(requests: &[Request], replies: &mut [Reply]) -> Result<Page, Refusal> {
+fn ran(requests: &[Request], replies: &mut [Result<Reply, Refusal>]) -> Result<Page, Refusal> {
     let mut page = SEVENS;
     let mut strikes = StrikeSlice {
         items: &mut page.records,
     };
-    page.sheet = run_requests(
-        &two_beside_one(),
-        &Flags {},
-        &mut page.pairs,
-        &mut strikes,
-        requests,
-        replies,
-    )?;
+    let on = Setting {
+        machine: &two_beside_one(),
+        order: &Flags {},
+    };
+    page.sheet = run_requests(&on, &mut page.pairs, &mut strikes, requests, replies)?;
     Ok(page)
 }
 
@@ -106,7 +101,7 @@ fn any_order_ends_the_same(rt: HostRuntime) -> Result<(), Fail> {
         Request::Sweep(1),
         Request::Settle,
     ];
-    assert!(rt; number(ran(&requests, &mut [UNSAID; 4])) == 6);
+    assert!(rt; ran(&requests, &mut [UNSAID; 4]).err() == Some(Refusal::ShortMemory));
     let page = ran(&requests, &mut [UNSAID; 5])?;
     assert!(rt; page.pairs == settled_page().pairs && page.sheet == settled_page().sheet);
     Ok(())
@@ -130,24 +125,26 @@ fn runs_reply(rt: HostRuntime) -> Result<(), Fail> {
     let mut walk = [0; STATE_BOUND];
     walk[1] = 1;
     let wanted = [
-        Reply::Tried(Verdict::Struck(strike(0, 1, Ground::ByLabel))),
-        Reply::Tried(Verdict::StaysStruck),
-        Reply::Tried(Verdict::Stays),
-        Reply::Swept(2),
-        Reply::Refused(Refusal::NotSettled),
-        Reply::Settled(2, 2),
-        Reply::ClassIs(2),
-        Reply::IsBelow(true),
-        Reply::IsBelow(false),
-        Reply::ReasonIs(strike(0, 2, Ground::ByStep(1))),
-        Reply::Walked(2, walk),
+        Ok(Reply::Tried(Verdict::Struck(strike(0, 1, Ground::ByLabel)))),
+        Ok(Reply::Tried(Verdict::StaysStruck)),
+        Ok(Reply::Tried(Verdict::Stays)),
+        Ok(Reply::Swept(2)),
+        Err(Refusal::NotSettled),
+        Ok(Reply::Settled(2, 2)),
+        Ok(Reply::ClassIs(2)),
+        Ok(Reply::IsBelow(true)),
+        Ok(Reply::IsBelow(false)),
+        Ok(Reply::ReasonIs(strike(0, 2, Ground::ByStep(1)))),
+        Ok(Reply::Walked {
+            places: 2,
+            states: walk,
+        }),
         UNSAID,
         UNSAID,
     ];
     let mut replies = [UNSAID; 13];
     let _ = ran(&requests, &mut replies)?;
-    for i in 0..13 {
-        assert_eq!(rt; replies[i], wanted[i]);
-    }
+    assert!(rt; replies == wanted);
+    assert!(rt; replies[10]?.walk() == Some(&[0, 1][..]) && replies[9]?.walk().is_none());
     Ok(())
 }

@@ -181,9 +181,20 @@ fn formulas_are_refused(rt: HostRuntime) {
         ),
         Ok(())
     );
-    assert!(rt;
-        rows == [7, 7]
-            && Refusal::ShortMemory.number() == 6
-            && Refusal::LineNotEarlier.number() == 12
-    );
+    assert!(rt; rows == [7, 7]);
+}
+
+#[test]
+fn refusals_have_numbers(rt: HostRuntime) {
+    let refusals = [
+        Refusal::NoStates,
+        Refusal::ShortMemory,
+        Refusal::NoSuchState,
+        Refusal::OtherSheet,
+        Refusal::NotSettled,
+        Refusal::OtherPair,
+        Refusal::NoSuchStep,
+        Refusal::LineNotEarlier,
+    ];
+    assert!(rt; refusals.map(u8::from) == [5, 6, 7, 8, 9, 10, 11, 12]);
 }

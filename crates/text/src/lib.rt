@@ -3,4 +3,4 @@
 
 pub mod print;
 
-pub use print::{holds_line, holds_lines};
+pub use print::{HoldsLine, holds_lines};
