@@ -11,7 +11,7 @@ use crate::sheet::Sheet;
 use model::{Machine, Order, Refusal, STATE_BOUND};
 
 impl Sheet {
-    /// Answers into memory of its own, and names the good answer.
+    /// Answers into memory of its own, an array as the reply holds it, and names the good answer.
     fn walk<M: Machine>(
         &self,
         machine: &M,

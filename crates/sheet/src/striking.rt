@@ -32,6 +32,7 @@ impl<'a, M: Machine, O: Order<Label = M::Label>> Setting<'a, M, O> {
         ensures same { S.StrikeMemory.same strikes.old strikes.new }
     {
         let n = self.machine.count();
+        // The byte by its place in lent memory, where it is written below.
         if pairs[s * n + t] == 0 {
             return Verdict::StaysStruck;
         }

@@ -1,4 +1,5 @@
-//! What strikes say, for every machine and order: each theorem stands in the contract of a call that does nothing.
+//! What strikes say, for every machine and order: each theorem stands in the contract of a call of its
+//! own, by its name; the calls do nothing.
 ghost use Rattle.strikes.specs.Statements.{StrikesTell, StandingIsEntailment, AlikeIsSame, StandingIsLargest};
 
 use model::Order;
