@@ -2,7 +2,8 @@
 //!
 //! Some things are passed as they are. States are plain numbers, two for a pair: those of a call are not yet known to be
 //! states, and the definitions read lists by them; a type of checked numbers would carry its machine in each. Pair bytes
-//! and strikes are lent for one call, each by itself, since some calls take no strikes and some no order.
+//! and strikes are lent for one call, each by itself, since some calls take no strikes and some no order; the machine is
+//! the caller's for all calls. That pairs are as many as they should be is asked where a byte is written or a slice taken.
 #![tactic(auto)]
 
 mod calls;

@@ -1,8 +1,10 @@
 //! Tries, sweeps and passes over memory that is known to fit.
 //!
 //! Loops and no folds: each turn strikes lent memory, and a closure that does so needs an invariant of what it captures,
-//! which is longer than the loop's. Pairs, strikes and how many are made stay parameters, and each contract asks that they
-//! are ready: a struct that lends `&mut` memory has to say in each contract that it lends the same memory still.
+//! which is longer than the loop's. Pairs, strikes and how many are made stay parameters, and all but `attempt` ask that they
+//! are ready: a struct that lends `&mut` memory has to say in each contract that it lends the same memory still. What is lent
+//! is longer than what is used. Clauses write `setting` out: a definition for it would be one more to read, and would still be
+//! given the members of both traits.
 ghost use Rattle.std.specs.Prelude.{◌≡◌, ◌+◌, ◌*◌, ◌<◌, ◌≤◌, length};
 ghost use Rattle.model.specs.Machines.{states};
 ghost use Rattle.sheet.specs.Memory.{memory as held, Ready};
@@ -82,7 +84,8 @@ impl<'a, M: Machine, O: Order<Label = M::Label>> Setting<'a, M, O> {
         done
     }
 
-    /// Passes until one strikes nothing; answers how many strikes there are then, and the passes taken.
+    /// Passes until one strikes nothing, which is not known before; answers how many strikes there are then, and the passes
+    /// taken.
     pub(crate) fn strike_all<S: StrikeMemory>(
         &self,
         pairs: &mut [u8],

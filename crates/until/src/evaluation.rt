@@ -1,7 +1,7 @@
 //! Evaluation of formulas, line by line.
 //!
 //! The machine and the order are two parameters of these three functions, one of them public: a struct of both would
-//! shorten one call, and lengthen each clause.
+//! shorten two calls, and lengthen each clause. A state is a plain number, by which rows are read, and is asked to be one.
 ghost use Rattle.std.specs.Prelude.{◌≡◌, ◌+◌, ◌*◌, ◌<◌, ◌≤◌, length, Decides};
 ghost use Rattle.model.specs.Machines.{states};
 ghost use Rattle.until.specs.Lines.{Evaluates};
