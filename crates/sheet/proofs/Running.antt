@@ -26,7 +26,7 @@ use Rattle.sheet.specs.Calls.{Begins}
 use Rattle.sheet.specs.Replies.{Replied, Replies, RepliesInto}
 use Rattle.sheet.specs.Tells.{Represents}
 use Rattle.sheet.specs.Promises.{Onward, Says, Kept, CameUnderAll}
-use Rattle.sheet.specs.Law.{Asked, Law, RunLaw}
+use Rattle.sheet.specs.Law.{Asked, Law, PageLaw}
 use Rattle.sheet.specs.Runs.{run_tests, blank_walk, InTurn, Ran}
 use Rattle.sheet.proofs.Beginning.{begun_is}
 use Rattle.sheet.proofs.Telling.{stands_entails, stands_largest}
@@ -190,9 +190,11 @@ module _ {L : Type 0} (on : Setting L) where
     onward_in : (i j : ℕ) → i ≤ j → j ≤ length requests → Onward on (pages i) (pages j)
     onward_in i j h l = onward_at bounded laws pages requests replies begins few turn i j h (omega (arith, l, all))
 
-    in_turn_law : RunLaw on pages requests replies
+    replied_law : Law on last requests replies
+    replied_law = subst (λ p. Law on p requests replies) run.ends (running_law bounded laws pages requests replies begins few turn)
+
+    in_turn_law : PageLaw on pages requests replies
     in_turn_law = record {
-      replied = subst (λ n. Law on (pages n) requests replies) all (running_law bounded laws pages requests replies begins few turn);
       shown_there = λ i s t k x. subst (λ p. Says on p (Reason s t) (Ok (ReasonIs k))) (unmoved i s t (Ok (ReasonIs k)) x) (kept_in i (Reason s t) (Ok (ReasonIs k)) x).says k refl;
       standing_walks_given = λ i j s t u a b h x y. (kept_in j (Answer s t u) a y).given (was_settled bounded laws pages requests replies begins few turn i j b (Answer s t u) a h x y);
       reasons_given = λ i s t a x. (kept_in i (Reason s t) a x).given;
@@ -240,3 +242,9 @@ module _ {L : Type 0} (on : Setting L) where
         law = in_turn_law bounded laws pages requests (take (length requests) after) begun last (subst (Came on) same (IfOk-at_ok (λ x. CameUnderAll on.machine (page x pairs_begun records)) is came on.at_most))
             (length-take-le (length requests) after (omega (arith, places, kept, all))) in_turn;
       })
+
+  -- the law of the replies of a run that was made so
+  pub ran_law : Bounded on.machine → Preorder on.at_most → (requests : List Request) (before after : List Replied) (begun last : Page) → length requests ≤ length before → Ran on requests before after begun last → Law on last requests (take (length requests) after)
+  ran_law bounded laws requests before after begun last places ran =
+      replied_law bounded laws ran.pages requests (take (length requests) after) begun last (subst (Came on) ran.in_turn.begins (ran.law.came zero (omega arith)))
+      (length-take-le (length requests) after (omega (arith, places, ran.kept))) ran.in_turn

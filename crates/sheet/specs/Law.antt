@@ -48,10 +48,8 @@ module _ {L : Type 0} (on : Setting L) where
     pub no_more_sweeps : (i j s k : ℕ) (b : Replied) → i < j → Asked requests replies i Settle b → Asked requests replies j (Sweep s) (Ok (Swept k)) → k ≡ 0
     pub settles_once : (i j k l : ℕ) (b : Replied) → i < j → Asked requests replies i Settle b → Asked requests replies j Settle (Ok (Settled k l)) → (k ≡ 0) × (l ≡ 1)
 
--- The law of a run in which the request at place i was made on page i.
-pub record RunLaw {L : Type 0} (on : Setting L) (pages : ℕ → Page) (requests : List Request) (replies : List Replied) : Type 0 where
-  -- what the replies keep among themselves
-  pub replied : Law on (pages (length requests)) requests replies
+-- The law of the pages of a run in which the request at place i was made on page i.
+pub record PageLaw {L : Type 0} (on : Setting L) (pages : ℕ → Page) (requests : List Request) (replies : List Replied) : Type 0 where
   -- a strike that is shown tells its pair apart by the strikes of its own page
   pub shown_there : (i s t : ℕ) (k : Strike) → Asked requests replies i (Reason s t) (Ok (ReasonIs k)) → Shown on (held (pages i)) s t k
   -- after settling: the answer to each step of a pair that stands

@@ -10,7 +10,7 @@ use Rattle.sheet.specs.Verdicts.{Setting, size}
 use Rattle.sheet.specs.Pages.{Page, page, begun_page}
 use Rattle.sheet.specs.Causes.{begin_tests}
 use Rattle.sheet.specs.Replies.{Replied, RepliesInto}
-use Rattle.sheet.specs.Law.{Asked, RunLaw}
+use Rattle.sheet.specs.Law.{Asked, PageLaw}
 
 -- Why a run is refused, if it is: as begin, or there are more requests than places for replies.
 abbrev pub run_tests : ℕ → List ℕ → List Strike → List Request → List Replied → List (Bool × ℕ)
@@ -26,13 +26,13 @@ pub record InTurn {L : Type 0} (on : Setting L) (pages : ℕ → Page) (requests
   pub turn : (i : ℕ) (q : Request) (a : Replied) → Asked requests replies i q a → RepliesInto on blank_walk (pages i) q a (pages (suc i))
   pub ends : pages (length replies) ≡ last
 
--- There is a reply to each request, made in turn, the law holds of all of them, and the places past them are untouched.
+-- There is a reply to each request, made in turn, the law of the pages holds, and the places past the replies are untouched.
 pub record Ran {L : Type 0} (on : Setting L) (requests : List Request) (before after : List Replied) (begun last : Page) : Type 0 where
   pub kept : length after ≡ length before
   pub rest : drop (length requests) after ≡ drop (length requests) before
   pub pages : ℕ → Page
   pub in_turn : InTurn on pages requests (take (length requests) after) begun last
-  pub law : RunLaw on pages requests (take (length requests) after)
+  pub law : PageLaw on pages requests (take (length requests) after)
 
 -- A refusal changes nothing; else the requests ran, from a page that was just begun to the sheet and memory at the end.
 abbrev pub Runs : {L : Type 0} → Setting L → List ℕ → List Strike → List Request → List Replied → Result Sheet Refusal → List ℕ → List Strike → List Replied → Type 0

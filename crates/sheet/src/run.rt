@@ -1,7 +1,9 @@
 //! Runs: a list of requests, made in turn on one sheet.
+ghost use Rattle.std.specs.Prelude.{IfOk, length, take};
 ghost use Rattle.sheet.specs.Verdicts.{setting};
 ghost use Rattle.sheet.specs.Pages.{page};
 ghost use Rattle.sheet.specs.Replies.{Walks, RepliesInto};
+ghost use Rattle.sheet.specs.Law.{Law};
 ghost use Rattle.sheet.specs.Runs.{Runs, blank_walk};
 
 use crate::memory::StrikeMemory;
@@ -67,6 +69,7 @@ pub fn run_requests<M: Machine, O: Order<Label = M::Label>, S: StrikeMemory>(
     replies: &mut [Result<Reply, Refusal>],
 ) -> Result<Sheet, Refusal>
     ensures answer { Runs (setting (O.Order.relation on.now.order.now) (M.Machine.meaning on.now.machine.now)) pairs.old (S.StrikeMemory.records strikes.old) requests.now replies.old result pairs.new (S.StrikeMemory.records strikes.new) replies.new }
+    ensures law { IfOk result (λ sheet. Law (setting (O.Order.relation on.now.order.now) (M.Machine.meaning on.now.machine.now)) (page sheet pairs.new (S.StrikeMemory.records strikes.new)) requests.now (take (length requests.now) replies.new)) }
     ensures same { S.StrikeMemory.same strikes.old strikes.new }
 {
     if on.machine.count() == 0 {

@@ -1,9 +1,10 @@
 use Rattle.std.proofs.Common.{refl, rules, arith}
 use Rattle.std.proofs.lemmas.Grind.{common_steps}
 use Rattle.std.proofs.lemmas.Option.{slice_get-get_or}
+use Rattle.model.proofs.Checks.{answered_at}
 use Rattle.sheet.specs.Verdicts.{setting}
 use Rattle.sheet.specs.Pages.{page}
-use Rattle.sheet.proofs.Running.{in_turn_none, in_turn_next, run_answers}
+use Rattle.sheet.proofs.Running.{in_turn_none, in_turn_next, run_answers, ran_law}
 use Rattle.sheet.proofs.run.run_requests.Goals as goal
 
 pub loop-k-init : goal.loop-k-init
@@ -28,3 +29,8 @@ returns-clause-answer g c =
     run_answers (setting (g.O.Order.relation c.args.on.now.order.now) (g.M.Machine.meaning c.args.on.now.machine.now)) (g.M.Machine.bounded c.args.on.now.machine.now) (g.O.Order.lawful c.args.on.now.order.now) c.args.pairs.now c.begin.new.pairs
     (g.S.StrikeMemory.records c.args.strikes.now) c.begin.result c.in_ok-sheet.sheet c.in_ok-sheet.was c.begin.ensures.answer c.begin.ensures.came c.args.requests.now c.args.replies.now c.loop-k.replies c.loop-k.k
     (omega arith) (omega arith) (omega arith) c.loop-k.invariant.1 c.loop-k.sheet c.loop-k.pairs (g.S.StrikeMemory.records c.loop-k.strikes) c.loop-k.invariant.0
+
+pub returns-clause-law : goal.returns-clause-law
+returns-clause-law g c =
+    ran_law (setting (g.O.Order.relation c.args.on.now.order.now) (g.M.Machine.meaning c.args.on.now.machine.now)) (g.M.Machine.bounded c.args.on.now.machine.now) (g.O.Order.lawful c.args.on.now.order.now) c.args.requests.now c.args.replies.now c.loop-k.replies
+    _ _ (omega arith) (answered_at _ c.loop-k.sheet (returns-clause-answer g c)).0
