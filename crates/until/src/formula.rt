@@ -15,6 +15,17 @@ pub enum Line<L> {
     Until(usize, usize),
 }
 
+/// The line that needs no label and no other line.
+impl<L> Default for Line<L> {
+    ghost use Rattle.until.specs.declared.formula.Line.TheVariants.{True};
+
+    ghost is_default = { λ line. line ≡ True };
+
+    fn default() -> Self {
+        Line::True
+    }
+}
+
 impl<L> Line<L> {
     /// Whether this line, as line `k`, names lines before it only.
     pub fn names_earlier(&self, k: usize) -> bool
