@@ -6,7 +6,7 @@ use std::alloc::{AllocError, Global};
 use std::fmt;
 
 /// A word of the printed lines; the library prints `true` and `false`.
-fn yes_or_no(yes: bool) -> &'static str
+pub fn yes_or_no(yes: bool) -> &'static str
     ensures { result.now ≡ yes_or_no yes }
 {
     if yes { "yes" } else { "no" }
