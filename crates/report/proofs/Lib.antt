@@ -1,0 +1,4 @@
+pub mod Settles
+pub mod Counts
+pub mod SaidCounts
+pub mod Sides

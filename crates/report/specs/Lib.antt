@@ -1,0 +1,5 @@
+pub mod Printed
+pub mod Settled
+pub mod Reports
+pub mod Comparisons
+pub mod Sides
