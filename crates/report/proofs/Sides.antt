@@ -66,7 +66,7 @@ not_refused true e r a h = absurd (cc)
 not_refused false e r a h = h
 
 -- A text that is not too long is read as it says.
-said_of : (text : List ℕ) (said : Said) → read_of text ≡ Ok said → two_said text ≡ Ok said
+pub said_of : (text : List ℕ) (said : Said) → read_of text ≡ Ok said → two_said text ≡ Ok said
 said_of text said h = not_refused _ _ _ said h
 
 module _ (text : List ℕ) (left right : SideMemory) (left_after right_after : Places) (left_long : is_short left ≡ false) (right_long : is_short right ≡ false) (r : Result TwoRead (Refused Place))

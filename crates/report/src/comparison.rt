@@ -8,6 +8,7 @@ ghost use Rattle.text.specs.Readings.{Said};
 ghost use Rattle.text.specs.OrderLines.{text_at_most};
 ghost use Rattle.report.specs.Reports.{report_lines};
 ghost use Rattle.report.specs.Comparisons.{read_of, printed};
+ghost use Rattle.report.specs.TextTells.{TextTells};
 ghost use Rattle.report.specs.Sides.{HasRoom, first_states, AreSides};
 
 use crate::lines::RefusedLine;
@@ -128,9 +129,11 @@ pub struct Report {
 }
 
 /// Compares the two machines of a text. Only memory may run out.
+#[tactic(auto, using(crate::proofs::TextTells::read_tells))]
 pub fn compare(heap: Global, text: &[u8]) -> Result<Report, AllocError>
     ensures lines { IfOk result (λ report. string_bytes report.lines ≡ printed text.now) }
     ensures refusal { IfOk result (λ report. report.is_refusal ≡ is_err (read_of text.now)) }
+    ensures tells { IfOk (read_of text.now) TextTells }
 {
     let mut left = Places::new(heap)?;
     let mut right = Places::new(heap)?;

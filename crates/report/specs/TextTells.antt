@@ -1,0 +1,14 @@
+-- What the report on a text tells. Assumes nothing.
+use Rattle.std.specs.Prelude.{◌<◌}
+use Rattle.model.specs.Machines.{states}
+use Rattle.text.specs.declared.fault.Side.TheVariants.{Left}
+use Rattle.text.specs.Readings.{Said}
+use Rattle.sheet.specs.Verdicts.{size}
+use Rattle.report.specs.Comparisons.{machine_on, setting_said}
+use Rattle.report.specs.Tells.{ReportTells}
+
+-- The left has a first state, the right's first state is one, and what is printed of states is so.
+pub record TextTells (said : Said) : Type 0 where
+  pub left : 0 < states (machine_on Left said.rows)
+  pub right : states (machine_on Left said.rows) < size (setting_said said)
+  pub report : ReportTells (setting_said said)
