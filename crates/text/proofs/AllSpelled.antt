@@ -1,7 +1,7 @@
 -- The numbers of all labels. Assumes nothing.
 use Rattle.std.proofs.Common.{◌≡◌, ℕ, zero, suc, List, [], ◌∷◌, ◌++◌, length, Option, Some, None, ℤ, refl, ap, sym, ◌∙◌}
 use Rattle.std.specs.List.{slice_get}
-use Rattle.text.specs.Numbers.{also}
+use Rattle.text.specs.Numbers.{both}
 use Rattle.text.specs.Writings.{all_spelled}
 use Rattle.text.proofs.AllThere.{all_there}
 
@@ -13,18 +13,18 @@ module _ {L : Type 0} (spelled : L → Option (List ℤ)) where
 
   -- One more label.
   pub spelled_push : (ls : List L) (l : L) (numbers : List (List ℤ)) (zs : List ℤ) → all_spelled spelled ls ≡ Some numbers → Some zs ≡ spelled l → all_spelled spelled (ls ++ (l ∷ [])) ≡ Some (numbers ++ (zs ∷ []))
-  spelled_push [] l numbers zs e h = let none : [] ≡ numbers = cc in ap (λ x. also x (Some [])) (sym h) ∙ ap (λ x. Some (x ++ (zs ∷ []))) none
+  spelled_push [] l numbers zs e h = let none : [] ≡ numbers = cc in ap (λ x. both ◌∷◌ x (Some [])) (sym h) ∙ ap (λ x. Some (x ++ (zs ∷ []))) none
   spelled_push (x ∷ ls) l numbers zs e h =
       let f = all_there (spelled x) (all_spelled spelled ls) numbers e in
       let more = spelled_push ls l f.others zs f.others_so h in
-      (λ i. also (f.first_so i) (more i)) ∙ ap (λ x. Some (x ++ (zs ∷ []))) (sym f.are)
+      (λ i. both ◌∷◌ (f.first_so i) (more i)) ∙ ap (λ x. Some (x ++ (zs ∷ []))) (sym f.are)
 
-  also_none : (o : Option (List ℤ)) → also o None ≡ None
-  also_none None = refl
-  also_none (Some zs) = refl
+  both_none : (o : Option (List ℤ)) → both ◌∷◌ o None ≡ None
+  both_none None = refl
+  both_none (Some zs) = refl
 
   -- A label that cannot be written.
   pub not_spelled : (ls : List L) (s : ℕ) (l : L) → slice_get ls s ≡ Some l → None ≡ spelled l → all_spelled spelled ls ≡ None
   not_spelled [] s l at h = absurd (cc)
-  not_spelled (x ∷ ls) zero l at h = let same : x ≡ l = cc in ap (λ y. also y (all_spelled spelled ls)) (ap spelled same ∙ sym h)
-  not_spelled (x ∷ ls) (suc s) l at h = ap (also (spelled x)) (not_spelled ls s l at h) ∙ also_none (spelled x)
+  not_spelled (x ∷ ls) zero l at h = let same : x ≡ l = cc in ap (λ y. both ◌∷◌ y (all_spelled spelled ls)) (ap spelled same ∙ sym h)
+  not_spelled (x ∷ ls) (suc s) l at h = ap (both ◌∷◌ (spelled x)) (not_spelled ls s l at h) ∙ both_none (spelled x)

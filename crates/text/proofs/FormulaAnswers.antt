@@ -10,10 +10,10 @@ use Rattle.text.specs.declared.fault.Fault.{Fault}
 use Rattle.text.specs.declared.fault.Fault.TheVariants.{ShortMemory, TooLong}
 use Rattle.text.specs.declared.fault.Refused.{Refused}
 use Rattle.text.specs.Faults.{refused, refused_at}
-use Rattle.text.specs.Lines.{pieces}
+use Rattle.text.specs.Lines.{pieces, first_piece}
 use Rattle.text.specs.Spelling.{Spelling}
 use Rattle.text.specs.Readings.{over, unless_refused}
-use Rattle.text.specs.FormulaTexts.{size, flat, first_piece, first_line, line_checked, line_in, Writes, alone, Says, SaysOne, ReadsFormula}
+use Rattle.text.specs.FormulaTexts.{size, flat, first_line, line_checked, line_in, Writes, alone, Says, SaysOne, ReadsFormula}
 use Rattle.text.specs.FormulaParts.{line_with, shown, lines_of, Gives, ReadsText}
 use Rattle.text.proofs.FormulaFilling.{length-lines_of}
 use Rattle.text.proofs.FormulaMeanings.{denoted_flat, earlier_flat}

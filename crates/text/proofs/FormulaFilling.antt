@@ -5,7 +5,7 @@ use Rattle.std.proofs.lemmas.List.{map-append, take_more}
 use Rattle.std.proofs.lemmas.List.Elements.{All-get_or}
 use Rattle.std.proofs.lemmas.List.Sums.{AllPass-from_list_all}
 use Rattle.until.specs.declared.formula.Line.{Line}
-use Rattle.text.specs.FormulaTexts.{both}
+use Rattle.text.specs.Numbers.{both}
 use Rattle.text.specs.FormulaParts.{line_with, shown, line_of, lines_of}
 use Rattle.text.proofs.FormulaMeanings.{lines_of-append, each_there}
 use Rattle.text.proofs.FormulaWritten.{both_parts}

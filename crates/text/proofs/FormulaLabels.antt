@@ -12,7 +12,7 @@ use Rattle.std.proofs.lemmas.Slice.Eq.{bytes_eq-Decides}
 use Rattle.std.proofs.lemmas.Str.Parse.{digit_from_value, digit_at}
 use Rattle.model.proofs.Tests.{holds_true}
 use Rattle.text.specs.Lines.{pieces}
-use Rattle.text.specs.Numbers.{is_small, written_as, number, also, numbers, at_most_four, items}
+use Rattle.text.specs.Numbers.{is_small, written_as, number, both, numbers, at_most_four, items}
 use Rattle.text.specs.Spelling.{Spelling}
 use Rattle.text.specs.FormulaParts.{Label, label_of}
 use Rattle.text.proofs.Pieces.{Lacks, pieces_front, pieces_whole, pieces_joined, some_pieces}
@@ -99,7 +99,7 @@ abbrev spaced : List (List ℕ) → List ℕ
 spaced [] = []
 spaced (p ∷ ps) = 32 ∷ (p ++ spaced ps)
 
-also_parts : (y : Option ℤ) (ys : Option (List ℤ)) (zs : List ℤ) → also y ys ≡ Some zs → (z : ℤ) × (rest : List ℤ) × (y ≡ Some z) × (ys ≡ Some rest) × (zs ≡ z ∷ rest)
+also_parts : (y : Option ℤ) (ys : Option (List ℤ)) (zs : List ℤ) → both ◌∷◌ y ys ≡ Some zs → (z : ℤ) × (rest : List ℤ) × (y ≡ Some z) × (ys ≡ Some rest) × (zs ≡ z ∷ rest)
 also_parts None ys zs e = cc
 also_parts (Some y) None zs e = cc
 also_parts (Some y) (Some ys) zs e = (y, ys, refl, refl, cc)

@@ -7,7 +7,8 @@ use Rattle.until.specs.declared.formula.Line.{Line}
 use Rattle.until.specs.declared.formula.Line.TheVariants.{At, And, Until}
 use Rattle.until.specs.Formulas.{Formula, truth, at, and, until}
 use Rattle.until.specs.Lines.{formula_of, formulas_from, denoted, names_earlier, all_name_earlier}
-use Rattle.text.specs.FormulaTexts.{both, formula_by, size, own, flat}
+use Rattle.text.specs.Numbers.{both}
+use Rattle.text.specs.FormulaTexts.{formula_by, size, own, flat}
 use Rattle.text.specs.FormulaParts.{line_with, shown, label_of, line_of, lines_of}
 use Rattle.text.proofs.FormulaSizes.{size_some, length-flat}
 use Rattle.text.proofs.FormulaWritten.{mapped, both_parts}

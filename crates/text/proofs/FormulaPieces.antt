@@ -3,8 +3,7 @@ use Rattle.std.proofs.Common.{◌≡◌, ℕ, ◌<◌, ◌==◌, false, List, []
 use Rattle.std.specs.List.{join_with_byte, onto_first}
 use Rattle.std.proofs.lemmas.Bool.{cond_both}
 use Rattle.std.proofs.lemmas.List.Elements.{All-nil, All-cons}
-use Rattle.text.specs.Lines.{pieces}
-use Rattle.text.specs.FormulaTexts.{first_piece}
+use Rattle.text.specs.Lines.{pieces, first_piece}
 use Rattle.text.specs.FormulaParts.{LabelFront}
 use Rattle.text.proofs.Pieces.{Lacks, some_pieces, pieces_front, pieces_joined}
 

@@ -2,9 +2,9 @@
 use Rattle.std.proofs.Common.{◌≡◌, ℕ, ◌<◌, ◌≤◌, List, [], ◌∷◌, ◌++◌, length, Option, Some, None, option_map, option_and_then, ℤ, refl, ap, sym, ◌∙◌, append-nil, arith}
 use Rattle.until.specs.Formulas.{Formula, truth, at, and, until}
 use Rattle.text.specs.Lines.{pieces}
-use Rattle.text.specs.Numbers.{numbers, items}
+use Rattle.text.specs.Numbers.{both, numbers, items}
 use Rattle.text.specs.Spelling.{Spelling}
-use Rattle.text.specs.FormulaTexts.{letters, both, formula_by, formula_label, deepest, Writes}
+use Rattle.text.specs.FormulaTexts.{letters, formula_by, formula_label, deepest, Writes}
 use Rattle.text.specs.FormulaParts.{bytes_of, Labelled, Front, NoFront, label_of}
 use Rattle.text.proofs.FormulaFronts.{same_front}
 use Rattle.text.proofs.FormulaDepths.{nesting_deepest}

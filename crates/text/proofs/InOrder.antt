@@ -13,7 +13,7 @@ use Rattle.text.specs.declared.row.Row.TheVariants.{Header, Label, Step}
 use Rattle.text.specs.declared.row.Due.{Due}
 use Rattle.text.specs.declared.row.Due.TheVariants.{Label as LabelDue, Step as StepDue}
 use Rattle.text.specs.Lines.{pieces}
-use Rattle.text.specs.Numbers.{also}
+use Rattle.text.specs.Numbers.{both}
 use Rattle.text.specs.Spelling.{Spelling}
 use Rattle.text.specs.Rows.{part, is_machine, is_due, side_at, side_of_line, after}
 use Rattle.text.specs.Readings.{Rows, rows}
@@ -136,7 +136,7 @@ module _ {L : Type 0} (spelled : L → Option (List ℤ)) (understood : List ℤ
           places = more.places;
           rest = more.rest;
           others = more.others;
-          spelled_so = (λ i. also (laws.back w.says.others l w.says.reads i) (more.spelled_so i));
+          spelled_so = (λ i. both ◌∷◌ (laws.back w.says.others l w.says.reads i) (more.spelled_so i));
           all = omega (arith, more.all);
           rising = more.rising;
           bare = more.bare;

@@ -4,7 +4,7 @@ use Rattle.std.proofs.lemmas.List.{append_assoc, length-append}
 use Rattle.std.proofs.lemmas.Bool.Decides.{nat_tests}
 use denote.Ref.{Bor}
 use Rattle.text.specs.Lines.{pieces_of}
-use Rattle.text.specs.Numbers.{numbers, also, at_most_four}
+use Rattle.text.specs.Numbers.{numbers, both, at_most_four}
 
 -- Some numbers in front of others.
 abbrev pub after : List ℤ → Option (List ℤ) → Option (List ℤ)
@@ -21,10 +21,10 @@ abbrev pub left : Option (Bor (List ℕ)) → ℕ
 left None = 0
 left (Some bytes) = length bytes.now + 1
 
-pub too_many : (zs : List ℤ) (z : ℤ) (o : Option (List ℤ)) → length zs ≡ 4 → at_most_four (after zs (also (Some z) o)) ≡ None
+pub too_many : (zs : List ℤ) (z : ℤ) (o : Option (List ℤ)) → length zs ≡ 4 → at_most_four (after zs (both ◌∷◌ (Some z) o)) ≡ None
 too_many zs z None e = refl
 too_many zs z (Some ys) e = grind (arith, nat_tests, length-append)
 
-pub one_more : (zs : List ℤ) (z : ℤ) (o : Option (List ℤ)) → after zs (also (Some z) o) ≡ after (zs ++ z ∷ []) o
+pub one_more : (zs : List ℤ) (z : ℤ) (o : Option (List ℤ)) → after zs (both ◌∷◌ (Some z) o) ≡ after (zs ++ z ∷ []) o
 one_more zs z None = refl
 one_more zs z (Some ys) = ap Some (sym (append_assoc zs (z ∷ []) ys))

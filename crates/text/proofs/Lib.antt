@@ -25,7 +25,6 @@ pub mod FormLines
 pub mod Numerals
 pub mod RowLines
 pub mod RowByRow
-pub mod RowsFollow
 pub mod SideLines
 pub mod Places
 pub mod Grids
@@ -37,7 +36,9 @@ pub mod InOrder
 pub mod SidesRead
 pub mod SideTexts
 pub mod SidesWritten
+pub mod WrittenParts
 pub mod OrderTexts
+pub mod SidesCounted
 pub mod ReadsInOrder
 pub mod Texts
 pub mod TwoTexts
@@ -62,3 +63,6 @@ pub mod FormulaItems
 pub mod FormulaReading
 pub mod FormulaFilling
 pub mod FormulaAnswers
+pub mod Fronts
+pub mod FaultLines
+pub mod FormulaFaultLines

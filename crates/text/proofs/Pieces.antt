@@ -7,11 +7,16 @@ use Rattle.std.proofs.lemmas.List.{take_rest}
 use Rattle.std.proofs.lemmas.List.Sums.{split_at_first, fails_before_first, passes_at_first}
 use Rattle.std.proofs.lemmas.List.Splits.{slice_split_at, slice_split_first, slice_split_none, length-slice_split, join_with_byte-slice_split}
 use Rattle.std.proofs.lemmas.Option.{cond_some}
-use Rattle.text.specs.Lines.{pieces}
+use Rattle.text.specs.Lines.{pieces, first_piece}
 
 -- There is a piece at least.
 pub some_pieces : (stop : ℕ) (bytes : List ℕ) → 0 < length (pieces stop bytes)
 some_pieces stop bytes = omega (arith, length-slice_split (λ b. b == stop) bytes)
+
+-- The first of some pieces, and the others.
+pub first_and_others : (ps : List (List ℕ)) → 0 < length ps → ps ≡ first_piece ps ∷ drop 1 ps
+first_and_others [] some = absurd (omega arith)
+first_and_others (p ∷ ps) some = refl
 
 abbrev pub Lacks : ℕ → List ℕ → Type 0
 Lacks stop bytes = All (λ b. (b == stop) ≡ false) bytes
@@ -57,3 +62,13 @@ module _ (stop : ℕ) (bytes : List ℕ) where
 
   pub whole_piece : position (λ b. b == stop) bytes ≡ None → pieces stop bytes ≡ bytes ∷ []
   whole_piece e = no_stop (grind (arith, nat_tests))
+
+-- A piece and those of some bytes come from the piece, a stop and the bytes.
+pub pieces_of_two : (stop : ℕ) (bytes line rest : List ℕ) → pieces stop bytes ≡ line ∷ pieces stop rest → bytes ≡ line ++ stop ∷ rest
+pieces_of_two stop bytes line rest cut = by (pieces stop rest) refl
+  where
+    by : (ps : List (List ℕ)) → pieces stop rest ≡ ps → bytes ≡ line ++ stop ∷ rest
+    by [] none = let some = some_pieces stop rest in absurd (omega (arith, ap length none))
+    by (q ∷ ps) is =
+        let m = more_pieces stop bytes line q ps (cut ∙ ap (λ xs. line ∷ xs) is) in
+        m.1 ∙ ap (λ xs. line ++ stop ∷ xs) (pieces_joined stop m.0 (q ∷ ps) m.2 ∙ sym (pieces_joined stop rest (q ∷ ps) is))

@@ -1,5 +1,5 @@
 -- What reading a text answers, once its rows are known and stored. Assumes nothing.
-use Rattle.std.proofs.Common.{◌≡◌, ℕ, ◌≤◌, Bool, true, false, cond, List, length, Option, Some, None, Result, Ok, Err, ℤ, refl, sym, ap, ◌∙◌, subst, ltb, is_ok, unwrap_or, arith}
+use Rattle.std.proofs.Common.{◌≡◌, ℕ, ◌≤◌, Bool, true, false, cond, List, length, Option, Some, None, Result, Ok, Err, ℤ, refl, sym, ap, ◌∙◌, subst, ltb, is_ok, unwrap_or}
 use Rattle.std.specs.Result.{MatchResult, IfOk}
 use Rattle.std.proofs.lemmas.Bool.{or_parts, ltb-false}
 use Rattle.text.specs.declared.fault.Fault.TheVariants.{TooLong, ShortMemory}
@@ -10,11 +10,11 @@ use Rattle.text.specs.declared.reading.SideRead.{SideRead}
 use Rattle.text.specs.declared.row.Shape.TheVariants.{Alone}
 use Rattle.text.specs.Spelling.{Spelling}
 use Rattle.text.specs.Faults.{refused}
-use Rattle.text.specs.Rows.{label_places, step_places}
-use Rattle.text.specs.Readings.{header_on, labels_on, places_on, side_said, over, steps_after, alone_said, unless_refused, text_bound, by_line, is_short_of, no_side, ReadsAlone}
-use Rattle.text.specs.Filling.{labels_stored, steps_stored}
+use Rattle.text.specs.Rows.{label_places}
+use Rattle.text.specs.Readings.{header_on, side_said, alone_said, unless_refused, text_bound, by_line, no_side, SideMemory, is_short, filled, ReadsAlone}
+use Rattle.text.specs.Filling.{stored}
 use Rattle.text.proofs.SidesRead.{alone_is_read}
-use Rattle.text.proofs.Stored.{labels_said, steps_said}
+use Rattle.text.proofs.Stored.{rows_said}
 
 pub good_is : {A E F : Type 0} (Q : E → Type 0) (h : Result A E) (m : Result A F) (y : A) → is_ok m ≡ is_ok h → MatchResult h (λ x. m ≡ Ok x) Q → m ≡ Ok y → h ≡ Ok y
 good_is Q (Ok x) m y v t e = cc
@@ -41,13 +41,9 @@ module _ {A E B : Type 0} (f : A → B) (h : Result B E) where
   said_bad (Ok rs) t e bad = absurd (cc)
   said_bad (Err e') t e bad = cc
 
--- There is room where memory is not short.
-pub room : {L : Type 0} (labels : List L) (steps : List ℕ) → is_short_of labels steps ≡ false → (label_places ≤ length labels) × (step_places ≤ length steps)
-room labels steps h =
-    let p = or_parts _ _ h in
-    let a = ltb-false (length labels) label_places p.0 in
-    let b = ltb-false (length steps) step_places p.1 in
-    (omega arith, omega arith)
+-- There is room for labels where memory is not short.
+pub room : {L : Type 0} (memory : SideMemory L) → is_short memory ≡ false → label_places ≤ length memory.labels
+room memory h = ltb-false (length memory.labels) label_places (or_parts _ _ h).0
 
 pub good_match : {A E : Type 0} (P : A → Type 0) (Q : E → Type 0) (x : Result A E) (a : A) → x ≡ Ok a → P a → MatchResult x P Q
 good_match P Q x a is p = subst (λ y. MatchResult y P Q) (sym is) p
@@ -56,23 +52,16 @@ pub bad_match : {A E : Type 0} (P : A → Type 0) (Q : E → Type 0) (x : Result
 bad_match P Q x e is q = subst (λ y. MatchResult y P Q) (sym is) q
 
 -- A machine alone whose rows are read and stored.
-pub reads_alone : {L : Type 0} (spelled : L → Option (List ℤ)) (understood : List ℤ → Option L) → Spelling spelled understood → (text : List ℕ) (labels : List L) (steps : List ℕ) (h : Result (Option SideRead × Option SideRead) (Refused Place)) (a b : Option SideRead) →
-    MatchResult (alone_said understood text) (λ rs. h ≡ Ok (header_on Left rs, header_on Right rs)) (λ e. h ≡ Err e) → h ≡ Ok (a, b) → unless_refused {A = Unit {0}} {P = ℕ} text 1 (is_short_of labels steps) (Ok tt) ≡ Ok tt →
-    (labels_now : List L) (steps_now : List ℕ) → IfOk (alone_said understood text) (λ rs. (labels_now ≡ labels_stored Right rs labels) × (steps_now ≡ steps_stored Right rs steps)) →
-    (side : SideRead) → side ≡ unwrap_or b no_side → ReadsAlone understood text labels steps (Ok side.count) labels_now steps_now
-reads_alone {L} spelled understood laws text labels steps h a b tells good passed labels_now steps_now stored side is =
+pub reads_alone : {L : Type 0} (spelled : L → Option (List ℤ)) (understood : List ℤ → Option L) → Spelling spelled understood → (text : List ℕ) (memory after : SideMemory L) (h : Result (Option SideRead × Option SideRead) (Refused Place)) (a b : Option SideRead) →
+    MatchResult (alone_said understood text) (λ rs. h ≡ Ok (header_on Left rs, header_on Right rs)) (λ e. h ≡ Err e) → h ≡ Ok (a, b) → unless_refused {A = Unit {0}} {P = ℕ} text 1 (is_short memory) (Ok tt) ≡ Ok tt →
+    IfOk (alone_said understood text) (λ rs. after ≡ stored Right rs memory) → (side : SideRead) → side ≡ unwrap_or b no_side → ReadsAlone understood text memory (Ok side.count) after
+reads_alone {L} spelled understood laws text memory after h a b tells good passed keeps side is =
     let s = said_good (λ rs. (header_on Left rs, header_on Right rs)) h (alone_said understood text) tells (a, b) good in
     let rs = s.0 in
-    let p = read_if_passed {P = ℕ} text 1 (is_short_of labels steps) passed (by_line (alone_said understood text)) in
-    let r = room labels steps p.0 in
-    let kept : (labels_now ≡ labels_stored Right rs labels) × (steps_now ≡ steps_stored Right rs steps) = subst (λ x. IfOk x (λ rs. (labels_now ≡ labels_stored Right rs labels) × (steps_now ≡ steps_stored Right rs steps))) s.1 stored in
+    let p = read_if_passed {P = ℕ} text 1 (is_short memory) passed (by_line (alone_said understood text)) in
+    let kept : after ≡ stored Right rs memory = subst (λ x. IfOk x (λ rs. after ≡ stored Right rs memory)) s.1 keeps in
     let read = alone_is_read spelled understood laws Alone 1 text rs s.1 in
     let answer : Result ℕ (Refused ℕ) = Ok side.count in
-    good_match
-    (λ rs. (answer ≡ Ok (side_said Right rs).count) × (labels_now ≡ over (labels_on Right rs) labels) × (steps_now ≡ steps_after (side_said Right rs) (places_on Right rs) steps))
-    (λ e. (answer ≡ Err e) × (labels_now ≡ labels) × (steps_now ≡ steps))
-    (unless_refused text 1 (is_short_of labels steps) (by_line (alone_said understood text))) rs (p.1 ∙ ap by_line s.1) (
-      ap (λ x. Ok x.count) (is ∙ ap (λ x. unwrap_or x no_side) (ap (λ x. x.1) s.2)),
-      kept.0 ∙ labels_said read.held Right rs read.on_right labels r.0,
-      kept.1 ∙ steps_said read.held Right rs read.on_right steps,
-    )
+    good_match (λ rs. (answer ≡ Ok (side_said Right rs).count) × (after ≡ filled Right rs memory)) (λ e. (answer ≡ Err e) × (after ≡ memory))
+    (unless_refused text 1 (is_short memory) (by_line (alone_said understood text))) rs (p.1 ∙ ap by_line s.1)
+    (ap (λ x. Ok x.count) (is ∙ ap (λ x. unwrap_or x no_side) (ap (λ x. x.1) s.2)), kept ∙ rows_said read.held Right rs read.on_right memory (room memory p.0))

@@ -17,12 +17,12 @@ use Rattle.text.specs.Lines.{pieces}
 use Rattle.text.specs.Faults.{place}
 use Rattle.text.specs.OrderLines.{text_spelled, text_understood}
 use Rattle.text.specs.TextOrderLaws.{text_spelling}
-use Rattle.text.specs.Readings.{Rows, rows, header_on, labels_on, side_said, over, first_line, then_sides, ordered, two_said, unless_refused, is_short, no_side, Said, SideMemory, side_memory, filled, two_read, ReadsTwo}
-use Rattle.text.specs.Filling.{labels_stored, steps_stored}
+use Rattle.text.specs.Readings.{Rows, rows, header_on, side_said, first_line, then_sides, ordered, two_said, unless_refused, is_short, no_side, Said, SideMemory, filled, two_read, ReadsTwo}
+use Rattle.text.specs.Filling.{stored}
 use Rattle.text.proofs.SideRows.{rows_on}
 use Rattle.text.proofs.Held.{Held, rows_of}
 use Rattle.text.proofs.SidesRead.{both_are_read}
-use Rattle.text.proofs.Stored.{labels_said, steps_said}
+use Rattle.text.proofs.Stored.{rows_said}
 use Rattle.text.proofs.ReadTexts.{read_if_passed, said_good, said_bad, room, good_match, bad_match}
 
 module _ (text rest : List ℕ) (order : TextOrder) (named : first_line (pieces 10 text) ≡ Ok order) (follow : drop 1 (pieces 10 text) ≡ pieces 10 rest) where
@@ -33,7 +33,7 @@ module _ (text rest : List ℕ) (order : TextOrder) (named : first_line (pieces 
   two_so : two_said text ≡ ordered order sides
   two_so = ap (λ o. then_sides o (drop 1 (pieces 10 text))) named ∙ ap (then_sides (Ok order)) follow
 
-  module _ (left right : SideMemory) (passed : unless_refused {A = Unit {0}} text (place Order 1) (is_short left || is_short right) (Ok tt) ≡ Ok tt) (h : Result (Option SideRead × Option SideRead) (Refused Place))
+  module _ (left right : SideMemory (FlagSet × Span)) (passed : unless_refused {A = Unit {0}} text (place Order 1) (is_short left || is_short right) (Ok tt) ≡ Ok tt) (h : Result (Option SideRead × Option SideRead) (Refused Place))
       (tells : MatchResult sides (λ rs. h ≡ Ok (header_on Left rs, header_on Right rs)) (λ e. h ≡ Err e)) where
     pub two_refused : (e : Refused Place) → h ≡ Err e → ReadsTwo text left right (Err e) left right
     two_refused e bad =
@@ -47,18 +47,16 @@ module _ (text rest : List ℕ) (order : TextOrder) (named : first_line (pieces 
         (refl, refl, refl)
 
     -- A side whose rows are stored holds what they say.
-    side_filled : (rs : Rows (FlagSet × Span)) → sides ≡ Ok rs → (h : Held (text_spelled order)) (side : Side) → rows_on side rs ≡ rows_of h → (mem : SideMemory) → is_short mem ≡ false → (labels : List (FlagSet × Span)) (steps : List ℕ) →
-        IfOk sides (λ rs. (labels ≡ labels_stored side rs mem.labels) × (steps ≡ steps_stored side rs mem.steps)) → side_memory labels steps ≡ filled side rs mem
-    side_filled rs read h side are mem long labels steps stored =
-        let r = room mem.labels mem.steps long in
-        let kept : (labels ≡ labels_stored side rs mem.labels) × (steps ≡ steps_stored side rs mem.steps) = subst (λ x. IfOk x (λ rs. (labels ≡ labels_stored side rs mem.labels) × (steps ≡ steps_stored side rs mem.steps))) read stored in
-        ap (λ x. side_memory x steps) (kept.0 ∙ labels_said h side rs are mem.labels r.0)
-        ∙ ap (side_memory (over (labels_on side rs) mem.labels)) (kept.1 ∙ steps_said h side rs are mem.steps)
+    side_filled : (rs : Rows (FlagSet × Span)) → sides ≡ Ok rs → (h : Held (text_spelled order)) (side : Side) → rows_on side rs ≡ rows_of h → (memory after : SideMemory (FlagSet × Span)) → is_short memory ≡ false →
+        IfOk sides (λ rs. after ≡ stored side rs memory) → after ≡ filled side rs memory
+    side_filled rs read h side are memory after long keeps =
+        let kept : after ≡ stored side rs memory = subst (λ x. IfOk x (λ rs. after ≡ stored side rs memory)) read keeps in
+        kept ∙ rows_said h side rs are memory (room memory long)
 
-    pub two_good : (a b : Option SideRead) → h ≡ Ok (a, b) → (ls : List (FlagSet × Span)) (ss : List ℕ) (ks : List (FlagSet × Span)) (ts : List ℕ) →
-        IfOk sides (λ rs. (ls ≡ labels_stored Left rs left.labels) × (ss ≡ steps_stored Left rs left.steps)) → IfOk sides (λ rs. (ks ≡ labels_stored Right rs right.labels) × (ts ≡ steps_stored Right rs right.steps)) →
-        (x y : SideRead) → x ≡ unwrap_or a no_side → y ≡ unwrap_or b no_side → ReadsTwo text left right (Ok (record { order = order; left = x; right = y.count })) (side_memory ls ss) (side_memory ks ts)
-    two_good a b good ls ss ks ts stored_left stored_right x y is_x is_y =
+    pub two_good : (a b : Option SideRead) → h ≡ Ok (a, b) → (left_after right_after : SideMemory (FlagSet × Span)) →
+        IfOk sides (λ rs. left_after ≡ stored Left rs left) → IfOk sides (λ rs. right_after ≡ stored Right rs right) →
+        (x y : SideRead) → x ≡ unwrap_or a no_side → y ≡ unwrap_or b no_side → ReadsTwo text left right (Ok (record { order = order; left = x; right = y.count })) left_after right_after
+    two_good a b good left_after right_after left_keeps right_keeps x y is_x is_y =
         let s = said_good (λ rs. (header_on Left rs, header_on Right rs)) h sides tells (a, b) good in
         let rs = s.0 in
         let p = read_if_passed text (place Order 1) (is_short left || is_short right) passed (two_said text) in
@@ -67,11 +65,11 @@ module _ (text rest : List ℕ) (order : TextOrder) (named : first_line (pieces 
         let said : Said = record { order = order; rows = rs } in
         let answer : Result TwoRead (Refused Place) = Ok (record { order = order; left = x; right = y.count }) in
         good_match
-        (λ said. (answer ≡ Ok (two_read said)) × (side_memory ls ss ≡ filled Left said.rows left) × (side_memory ks ts ≡ filled Right said.rows right))
-        (λ e. (answer ≡ Err e) × (side_memory ls ss ≡ left) × (side_memory ks ts ≡ right))
+        (λ said. (answer ≡ Ok (two_read said)) × (left_after ≡ filled Left said.rows left) × (right_after ≡ filled Right said.rows right))
+        (λ e. (answer ≡ Err e) × (left_after ≡ left) × (right_after ≡ right))
         (unless_refused text (place Order 1) (is_short left || is_short right) (two_said text)) said (p.1 ∙ two_so ∙ ap (ordered order) s.1) (
           ap (λ z. Ok (record { order = order; left = z; right = y.count })) (is_x ∙ ap (λ z. unwrap_or z no_side) (ap (λ z. z.0) s.2))
               ∙ ap (λ z. Ok (record { order = order; left = side_said Left rs; right = z.count })) (is_y ∙ ap (λ z. unwrap_or z no_side) (ap (λ z. z.1) s.2)),
-          side_filled rs s.1 both.left Left both.on_left left q.0 ls ss stored_left,
-          side_filled rs s.1 both.right Right both.on_right right q.1 ks ts stored_right,
+          side_filled rs s.1 both.left Left both.on_left left left_after q.0 left_keeps,
+          side_filled rs s.1 both.right Right both.on_right right right_after q.1 right_keeps,
         )

@@ -5,7 +5,8 @@ use Rattle.text.specs.declared.fault.Side.{Side}
 use Rattle.text.specs.declared.fault.Side.TheVariants.{Left, Right}
 use Rattle.text.specs.declared.row.Row.{Row}
 use Rattle.text.specs.declared.row.Row.TheVariants.{Header, Label, Step}
-use Rattle.text.specs.Readings.{Rows, is_on, header_on, labels_on, places_on}
+use Rattle.text.specs.Rows.{same_side}
+use Rattle.text.specs.Readings.{Rows, header_on, labels_on, places_on}
 use Rattle.text.specs.Filling.{labels_with, steps_with, labels_stored, steps_stored}
 
 cond_each : {A B C : Type 0} (f : A → C) (g : B → C) (t : Bool) (a b : A) (x y : B) → f a ≡ g x → f b ≡ g y → f (cond t a b) ≡ g (cond t x y)
@@ -15,7 +16,7 @@ cond_each f g false a b x y p q = q
 module _ {L : Type 0} where
   abbrev pub rows_on : Side → Rows L → List (Row L)
   rows_on side [] = []
-  rows_on side ((other, r) ∷ rs) = cond (is_on side other) (r ∷ rows_on side rs) (rows_on side rs)
+  rows_on side ((other, r) ∷ rs) = cond (same_side side other) (r ∷ rows_on side rs) (rows_on side rs)
 
   -- Rows with the side on which they are.
   abbrev pub on : Side → List (Row L) → Rows L
@@ -43,26 +44,26 @@ module _ {L : Type 0} where
   module _ (side : Side) where
     pub labels_alone : (rs : Rows L) → labels_on side rs ≡ labels_on Right (right (rows_on side rs))
     labels_alone [] = refl
-    labels_alone ((other, Header form n) ∷ rs) = let more = labels_alone rs in same_on_right (labels_on Right) _ (is_on side other) _ _ more more
-    labels_alone ((other, Label s l) ∷ rs) = let more = labels_alone rs in cond_each (λ x. x) (λ x. labels_on Right (right x)) (is_on side other) _ _ _ _ (ap (λ x. l ∷ x) more) more
-    labels_alone ((other, Step q) ∷ rs) = let more = labels_alone rs in same_on_right (labels_on Right) _ (is_on side other) _ _ more more
+    labels_alone ((other, Header form n) ∷ rs) = let more = labels_alone rs in same_on_right (labels_on Right) _ (same_side side other) _ _ more more
+    labels_alone ((other, Label s l) ∷ rs) = let more = labels_alone rs in cond_each (λ x. x) (λ x. labels_on Right (right x)) (same_side side other) _ _ _ _ (ap (λ x. l ∷ x) more) more
+    labels_alone ((other, Step q) ∷ rs) = let more = labels_alone rs in same_on_right (labels_on Right) _ (same_side side other) _ _ more more
 
     pub places_alone : (rs : Rows L) → places_on side rs ≡ places_on Right (right (rows_on side rs))
     places_alone [] = refl
-    places_alone ((other, Header form n) ∷ rs) = let more = places_alone rs in same_on_right (places_on Right) _ (is_on side other) _ _ more more
-    places_alone ((other, Label s l) ∷ rs) = let more = places_alone rs in same_on_right (places_on Right) _ (is_on side other) _ _ more more
-    places_alone ((other, Step q) ∷ rs) = let more = places_alone rs in cond_each (λ x. x) (λ x. places_on Right (right x)) (is_on side other) _ _ _ _ (ap (λ x. q ∷ x) more) more
+    places_alone ((other, Header form n) ∷ rs) = let more = places_alone rs in same_on_right (places_on Right) _ (same_side side other) _ _ more more
+    places_alone ((other, Label s l) ∷ rs) = let more = places_alone rs in same_on_right (places_on Right) _ (same_side side other) _ _ more more
+    places_alone ((other, Step q) ∷ rs) = let more = places_alone rs in cond_each (λ x. x) (λ x. places_on Right (right x)) (same_side side other) _ _ _ _ (ap (λ x. q ∷ x) more) more
 
     pub header_alone : (rs : Rows L) → header_on side rs ≡ header_on Right (right (rows_on side rs))
     header_alone [] = refl
-    header_alone ((other, Header form n) ∷ rs) = cond_each (λ x. x) (λ x. header_on Right (right x)) (is_on side other) _ _ _ _ refl (header_alone rs)
-    header_alone ((other, Label s l) ∷ rs) = let more = header_alone rs in same_on_right (header_on Right) _ (is_on side other) _ _ more more
-    header_alone ((other, Step q) ∷ rs) = let more = header_alone rs in same_on_right (header_on Right) _ (is_on side other) _ _ more more
+    header_alone ((other, Header form n) ∷ rs) = cond_each (λ x. x) (λ x. header_on Right (right x)) (same_side side other) _ _ _ _ refl (header_alone rs)
+    header_alone ((other, Label s l) ∷ rs) = let more = header_alone rs in same_on_right (header_on Right) _ (same_side side other) _ _ more more
+    header_alone ((other, Step q) ∷ rs) = let more = header_alone rs in same_on_right (header_on Right) _ (same_side side other) _ _ more more
 
     pub labels_stored_alone : (rs : Rows L) (memory : List L) → labels_stored side rs memory ≡ labels_stored Right (right (rows_on side rs)) memory
     labels_stored_alone [] memory = refl
-    labels_stored_alone ((other, r) ∷ rs) memory = cond_each (labels_stored side rs) (λ x. labels_stored Right (right x) memory) (is_on side other) _ _ _ _ (labels_stored_alone rs (labels_with r memory)) (labels_stored_alone rs memory)
+    labels_stored_alone ((other, r) ∷ rs) memory = cond_each (labels_stored side rs) (λ x. labels_stored Right (right x) memory) (same_side side other) _ _ _ _ (labels_stored_alone rs (labels_with r memory)) (labels_stored_alone rs memory)
 
     pub steps_stored_alone : (rs : Rows L) (memory : List ℕ) → steps_stored side rs memory ≡ steps_stored Right (right (rows_on side rs)) memory
     steps_stored_alone [] memory = refl
-    steps_stored_alone ((other, r) ∷ rs) memory = cond_each (steps_stored side rs) (λ x. steps_stored Right (right x) memory) (is_on side other) _ _ _ _ (steps_stored_alone rs (steps_with r memory)) (steps_stored_alone rs memory)
+    steps_stored_alone ((other, r) ∷ rs) memory = cond_each (steps_stored side rs) (λ x. steps_stored Right (right x) memory) (same_side side other) _ _ _ _ (steps_stored_alone rs (steps_with r memory)) (steps_stored_alone rs memory)

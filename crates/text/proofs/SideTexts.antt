@@ -25,7 +25,7 @@ module _ {L : Type 0} where
   formed Machine labels places = tabled labels (grid (length labels) places)
   formed Trace labels places = traced labels
 
-  machine_formed : (form : Form) (labels : List L) (places : List ℕ) → 0 < length labels → length labels ≤ state_bound → machine_of form labels places ≡ formed form labels places
+  machine_formed : (form : Form) (labels : List L) (places : List ℕ) → 0 < length labels → length labels ≤ state_bound → machine_of form labels (grid (length labels) places) ≡ formed form labels places
   machine_formed Machine labels places some few = grid_fits labels places some few
   machine_formed Trace labels places some few = cond-true _ _ _ (le-leb (length labels) state_bound few)
 
@@ -53,8 +53,8 @@ module _ {L : Type 0} where
   told_as spelled side rs {form} {kind} {x} {y} e f t = subst (SideTold spelled side kind rs) f (subst (λ z. SideTold spelled side z rs x) e t)
 
   module _ {spelled : L → Option (List ℤ)} (h : Held spelled) (side : Side) (rs : Rows L) (are : rows_on side rs ≡ rows_of h) where
-    pub machine_so : machine_on side rs ≡ machine_of h.form h.labels h.places
-    machine_so = λ i. machine_of (unwrap_or (says_header h side rs are i) no_side).form (says_labels h side rs are i) (says_places h side rs are i)
+    pub machine_so : machine_on side rs ≡ machine_of h.form h.labels (grid (length h.labels) h.places)
+    machine_so = λ i. machine_of (unwrap_or (says_header h side rs are i) no_side).form (says_labels h side rs are i) (grid (length (says_labels h side rs are i)) (says_places h side rs are i))
 
     pub side_told : SideTold spelled side h.form rs (text_of h)
     side_told =
@@ -72,8 +72,8 @@ module _ {L : Type 0} where
 
   module _ (side : Side) (rs qs : Rows L) {spelled other : L → Option (List ℤ)} {form kind : Form} {x y : List ℕ} where
     -- Sides of the same form and machine have the same text.
-    pub same_side : spelled ≡ other → form ≡ kind → SideTold spelled side form rs x → SideTold other side kind qs y → SameMachine (machine_on side rs) (machine_on side qs) → x ≡ y
-    same_side e f a b same =
+    pub same_side_text : spelled ≡ other → form ≡ kind → SideTold spelled side form rs x → SideTold other side kind qs y → SameMachine (machine_on side rs) (machine_on side qs) → x ≡ y
+    same_side_text e f a b same =
         let labels = sym a.labels_so ∙ same.labels ∙ b.labels_so in
         let numbers = same_Some a.written.numbers b.written.numbers (sym a.written.spelled_so ∙ (λ i. all_spelled (e i) (labels i)) ∙ b.written.spelled_so) in
         a.is ∙ (λ i. side_lines (f i) (record { labels = same.labels i; step = λ s t. same.steps s t i }) (numbers i)) ∙ sym b.is

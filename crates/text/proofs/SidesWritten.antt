@@ -5,7 +5,7 @@ use Rattle.text.specs.declared.row.Form.{Form}
 use Rattle.text.specs.declared.row.Form.TheVariants.{Machine, Trace}
 use Rattle.text.specs.declared.fault.Side.{Side}
 use Rattle.text.specs.Rows.{text_states, is_machine}
-use Rattle.text.specs.Readings.{Rows}
+use Rattle.text.specs.Readings.{grid, Rows}
 use Rattle.text.specs.Writings.{line, header_line, label_lines, all_spelled, side_lines}
 use Rattle.text.specs.Statements.{machine_of, machine_on, SameMachine, HasForm}
 use Rattle.text.proofs.AllSpelled.{spelled_each}
@@ -57,6 +57,6 @@ module _ {L : Type 0} (spelled : L → Option (List ℤ)) (form : Form) (m : Mea
     pub same_machine : SameMachine (machine_on side rs) m
     same_machine = subst (λ x. SameMachine x m) (sym (machine_so written_held side rs are)) (by form formed)
       where
-        by : (form : Form) → HasForm form m → SameMachine (machine_of form m.labels (written_places form m)) m
+        by : (form : Form) → HasForm form m → SameMachine (machine_of form m.labels (grid (states m) (written_places form m))) m
         by Machine bounded = subst (λ x. SameMachine x m) (sym (grid_fits m.labels (machine_places m) some few)) (record { labels = refl; steps = λ s t. same_steps m bounded s t })
         by Trace same = same

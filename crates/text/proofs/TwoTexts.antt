@@ -18,7 +18,7 @@ use Rattle.text.proofs.SideLines.{header_word}
 use Rattle.text.proofs.SideRows.{on, rows_of_left, rows_of_right}
 use Rattle.text.proofs.Held.{Held, rows_of, text_of, says_header}
 use Rattle.text.proofs.SidesRead.{both_are_read}
-use Rattle.text.proofs.SideTexts.{SideTold, told_as, side_told, same_side}
+use Rattle.text.proofs.SideTexts.{SideTold, told_as, side_told, same_side_text}
 use Rattle.text.proofs.SidesWritten.{written_held, written_text, same_machine}
 use Rattle.text.proofs.ReadsInOrder.{side_says, last_says}
 use Rattle.text.proofs.OrderTexts.{sides_said, two_from_sides}
@@ -57,8 +57,8 @@ same_two_texts a b p q h k order form left right =
     let x = two_told a p h in
     let y = two_told b q k in
     let same_form : x.form ≡ y.form = sym (ap (λ o. (unwrap_or o no_side).form) x.left.written.counted) ∙ form ∙ ap (λ o. (unwrap_or o no_side).form) y.left.written.counted in
-    let left_text = same_side Left p.rows q.rows (λ i. text_spelled (order i)) same_form x.left y.left left in
-    let right_text = same_side Right p.rows q.rows (λ i. text_spelled (order i)) refl x.right y.right right in
+    let left_text = same_side_text Left p.rows q.rows (λ i. text_spelled (order i)) same_form x.left y.left left in
+    let right_text = same_side_text Right p.rows q.rows (λ i. text_spelled (order i)) refl x.right y.right right in
     x.is ∙ (λ i. order_line (order i) ++ (left_text i ++ right_text i)) ∙ sym y.is
 
 left_first : (form : Form) → is_due (HeaderDue Left 0) (header_word form) ≡ true

@@ -5,7 +5,7 @@ use Rattle.model.specs.Machines.{Meaning}
 use Rattle.text.specs.declared.fault.Fault.{Fault}
 use Rattle.text.specs.declared.fault.Fault.TheVariants.{ShortMemory}
 use Rattle.text.specs.Readings.{over}
-use Rattle.text.specs.Writings.{all_spelled, machine_lines, is_miscounted, written, WritesMachine}
+use Rattle.text.specs.Writings.{all_spelled, machine_lines, is_miscounted, written_by, WritesMachine}
 use Rattle.text.specs.Laying.{laid}
 use Rattle.text.proofs.Laying.{laid_all}
 
@@ -15,7 +15,7 @@ module _ {L : Type 0} (spelled : L → Option (List ℤ)) (m : Meaning L) where
 
   abbrev WritesOf : Option (List (List ℤ)) → List ℕ → Result ℕ Fault → List ℕ → Type 0
   WritesOf labels out r after =
-      MatchResult (written m labels (length out)) (λ text. (r ≡ Ok (length text)) × (after ≡ over text out)) (λ fault. (r ≡ Err fault) × (after ≡ out))
+      MatchResult (written_by m labels (length out)) (λ text. (r ≡ Ok (length text)) × (after ≡ over text out)) (λ fault. (r ≡ Err fault) × (after ≡ out))
 
   -- Memory is too short for it.
   pub not_written : (out : List ℕ) (size : ℕ) → text_length (all_spelled spelled m.labels) ≡ Some size → is_miscounted m ≡ false → length out < size → WritesMachine spelled m out (Err ShortMemory) out

@@ -37,10 +37,6 @@ place side line = record { side = side; line = line }
 abbrev pub refused_at : Fault → ℕ → Refused ℕ
 refused_at fault line = refused fault (Some line)
 
--- The same line, on a side.
-abbrev pub on_side : Side → Refused ℕ → Refused Place
-on_side side r = refused r.fault (option_map (place side) r.place)
-
 -- The line alone.
 abbrev pub line_alone : Refused Place → Refused ℕ
 line_alone r = refused r.fault (option_map (λ p. p.line) r.place)

@@ -4,13 +4,13 @@ use denote.Ref.{Bor}
 use Rattle.until.specs.Formulas.{Formula, truth, at, and, until}
 use Rattle.until.specs.declared.formula.Line.{Line}
 use Rattle.until.specs.declared.formula.Line.TheVariants.{True, At, And, Until}
-use Rattle.text.specs.Lines.{pieces}
-use Rattle.text.specs.Numbers.{numbers}
+use Rattle.text.specs.Lines.{newline, space, pieces}
+use Rattle.text.specs.Numbers.{both, numbers}
 use Rattle.arrayvec.specs.ArrayVec.{ArrayVec}
 use Rattle.text.specs.declared.fault.Fault.{Fault}
 use Rattle.text.specs.declared.fault.Fault.TheVariants.{WrongItems}
 use Rattle.text.specs.declared.fault.Refused.{Refused}
-use Rattle.text.specs.FormulaTexts.{letters_by, both, flat, line_checked, line_in, Writes, alone}
+use Rattle.text.specs.FormulaTexts.{letters_by, flat, line_checked, line_in, Writes, alone}
 
 -- The line with its label changed so.
 abbrev pub line_with : {A B : Type 0} → (A → B) → Line A → Line B
@@ -72,7 +72,7 @@ HasRoom lines bytes = 13 * length lines + 2 * length bytes ≤ 1040
 module _ {L : Type 0} (understood : List ℤ → Option L) where
   -- The label whose numbers the bytes are, with a space between them.
   abbrev pub label_of : List ℕ → Option L
-  label_of bytes = option_and_then understood (numbers (pieces 32 bytes))
+  label_of bytes = option_and_then understood (numbers (pieces space bytes))
 
   abbrev pub line_of : Line (List ℕ) → Option (Line L)
   line_of True = Some True
@@ -110,6 +110,6 @@ module _ {L : Type 0} (understood : List ℤ → Option L) where
   -- The lines of the formula that a text says, or why it says none.
   abbrev pub ReadsText : List ℕ → Result (ArrayVec (Line (Bor (List ℕ)))) (Refused ℕ) → Type 0
   ReadsText text r =
-      MatchResult (line_in (pieces 10 text))
-      (λ line. (F : Option (Formula L)) × Writes understood line F × Gives (alone understood F (pieces 10 text)) r)
+      MatchResult (line_in (pieces newline text))
+      (λ line. (F : Option (Formula L)) × Writes understood line F × Gives (alone understood F (pieces newline text)) r)
       (λ e. r ≡ Err e)

@@ -1,5 +1,6 @@
 -- Formulas in texts: how one is written, its numbered lines, and what reading one leaves in memory. Assumes nothing.
 use Rattle.std.specs.Prelude.{◌≡◌, ℕ, ◌+◌, ◌-◌, max, Bool, cond, ◌||◌, List, [], ◌∷◌, ◌++◌, length, Option, Some, None, option_map, Result, Ok, Err, MatchResult, nat_lt, ℤ, bytes_eq, codes}
+use Rattle.std.specs.Result.{result_map_both}
 use Rattle.until.specs.Formulas.{Formula, truth, at, and, until}
 use Rattle.until.specs.declared.formula.Line.{Line}
 use Rattle.until.specs.declared.formula.Line.TheVariants.{True, At, And, Until}
@@ -7,8 +8,8 @@ use Rattle.text.specs.declared.fault.Fault.{Fault}
 use Rattle.text.specs.declared.fault.Fault.TheVariants.{NoForm, UnknownWord, WrongItems, OutOfOrder, TooDeep}
 use Rattle.text.specs.declared.fault.Refused.{Refused}
 use Rattle.text.specs.Faults.{refused_at}
-use Rattle.text.specs.Lines.{pieces, sort_of, depth_after, is_line, inside}
-use Rattle.text.specs.Numbers.{items}
+use Rattle.text.specs.Lines.{newline, pieces, sort_of, depth_after, is_line, first_word}
+use Rattle.text.specs.Numbers.{both, items}
 use Rattle.text.specs.Readings.{over, unless_refused}
 
 -- How a formula is written, where its labels are written so.
@@ -21,11 +22,6 @@ letters_by label (until F G) = codes "(until " ++ (letters_by label F ++ (codes 
 -- How a formula whose labels are numbers is written.
 abbrev pub letters : Formula (List ℤ) → List ℕ
 letters F = letters_by items F
-
-abbrev pub both : {A B C : Type 0} → (A → B → C) → Option A → Option B → Option C
-both join None b = None
-both join (Some a) None = None
-both join (Some a) (Some b) = Some (join a b)
 
 -- The formula with its labels read, where each is read.
 abbrev pub formula_by : {A L : Type 0} → (A → Option L) → Formula A → Option (Formula L)
@@ -70,20 +66,15 @@ abbrev pub is_formula_word : List ℕ → Bool
 is_formula_word word =
     bytes_eq word (codes "true") || (bytes_eq word (codes "at") || (bytes_eq word (codes "and") || bytes_eq word (codes "until")))
 
-abbrev pub first_piece : List (List ℕ) → List ℕ
-first_piece [] = []
-first_piece (p ∷ ps) = p
-
 -- What a line of a formula is refused for before its items are looked at.
 abbrev pub line_checked : List ℕ → Result (Unit {0}) Fault
 line_checked line =
     cond (is_line line) (cond (nat_lt nesting_bound (deepest 0 line)) (Err TooDeep)
-    (cond (is_formula_word (first_piece (pieces 32 (inside line)))) (Ok tt) (Err UnknownWord))) (Err NoForm)
+    (cond (is_formula_word (first_word line)) (Ok tt) (Err UnknownWord))) (Err NoForm)
 
 -- A line is refused for a fault at line 1.
 abbrev pub first_line : List ℕ → Result (Unit {0}) Fault → Result (List ℕ) (Refused ℕ)
-first_line line (Ok u) = Ok line
-first_line line (Err fault) = Err (refused_at fault 1)
+first_line line checked = result_map_both (λ _. line) (λ fault. refused_at fault 1) checked
 
 -- The line whose items are looked at, or why a text in these pieces is refused before.
 abbrev pub line_in : List (List ℕ) → Result (List ℕ) (Refused ℕ)
@@ -112,8 +103,8 @@ module _ {L : Type 0} (understood : List ℤ → Option L) where
   -- What a text says, or why it is refused where there is memory for so many lines.
   abbrev pub Says : List ℕ → ℕ → Result (Formula L) (Refused ℕ) → Type 0
   Says text room said =
-      MatchResult (unless_refused text 1 (nat_lt room formula_places) (line_in (pieces 10 text)))
-      (λ line. (F : Option (Formula L)) × Writes line F × (said ≡ alone F (pieces 10 text)))
+      MatchResult (unless_refused text 1 (nat_lt room formula_places) (line_in (pieces newline text)))
+      (λ line. (F : Option (Formula L)) × Writes line F × (said ≡ alone F (pieces newline text)))
       (λ e. said ≡ Err e)
 
   -- Reading a formula answers how many lines it has, which memory then begins with; a refusal leaves memory.

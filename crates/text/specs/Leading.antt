@@ -6,7 +6,7 @@ use Rattle.text.specs.declared.fault.Refused.{Refused}
 use Rattle.text.specs.declared.row.Shape.{Shape}
 use Rattle.text.specs.declared.row.Row.{Row}
 use Rattle.text.specs.declared.row.Due.{Due}
-use Rattle.text.specs.Lines.{pieces}
+use Rattle.text.specs.Lines.{newline, pieces}
 use Rattle.text.specs.InOrder.{Storable}
 use Rattle.text.specs.Readings.{Rows, rows, also_row}
 
@@ -21,7 +21,7 @@ left bytes line due = record { bytes = bytes; line = line; due = due }
 
 module _ {L : Type 0} (understood : List ℤ → Option L) (shape : Shape) where
   abbrev pub rows_left : Left → Result (Rows L) (Refused Place)
-  rows_left l = rows understood shape l.due l.line (pieces 10 l.bytes)
+  rows_left l = rows understood shape l.due l.line (pieces newline l.bytes)
 
   -- From what was left to what is left: a row more, the end, or the first fault.
   abbrev pub Leads : Left → Result (Option (Side × Row L)) (Refused Place) → Left → Type 0

@@ -7,13 +7,15 @@ pub mod SpellingLaws
 pub mod OrderLines
 pub mod TextOrderLaws
 pub mod Rows
-pub mod InOrder
 pub mod Readings
+pub mod Writings
+pub mod Statements
+pub mod FormulaTexts
+pub mod Questions
+
+-- What the contracts of the crate's own functions cite; no public contract does.
+pub mod InOrder
 pub mod Leading
 pub mod Filling
-pub mod Writings
 pub mod Laying
-pub mod Statements
-pub mod Printed
-pub mod FormulaTexts
 pub mod FormulaParts

@@ -5,6 +5,13 @@ use denote.Ref.{Bor}
 use Rattle.text.specs.declared.form.Sort.{Sort}
 use Rattle.text.specs.declared.form.Sort.TheVariants.{Open, Close, Space, Letter, Figure, Foreign}
 
+-- The bytes that end a line and that part its words.
+abbrev pub newline : ℕ
+newline = 10
+
+abbrev pub space : ℕ
+space = 32
+
 -- The pieces between the bytes `stop`, which are one more than those bytes.
 abbrev pub pieces : ℕ → List ℕ → List (List ℕ)
 pieces stop bytes = slice_split (λ b. b == stop) bytes
@@ -14,13 +21,17 @@ abbrev pub pieces_of : ℕ → Option (Bor (List ℕ)) → List (List ℕ)
 pieces_of stop None = []
 pieces_of stop (Some bytes) = pieces stop bytes.now
 
+abbrev pub first_piece : List (List ℕ) → List ℕ
+first_piece [] = []
+first_piece (p ∷ ps) = p
+
 abbrev pub is_between : ℕ → ℕ → ℕ → Bool
 is_between low high b = nat_le low b && nat_le b high
 
 -- What a byte is for a line: ( and ) and a space, a letter from a to z, a digit or a minus, or none of these.
 abbrev pub sort_of : ℕ → Sort
 sort_of b =
-    cond (b == 40) Open (cond (b == 41) Close (cond (b == 32) Space (cond (is_between 97 122 b) Letter (cond (b == 45 || is_between 48 57 b) Figure Foreign))))
+    cond (b == 40) Open (cond (b == 41) Close (cond (b == space) Space (cond (is_between 97 122 b) Letter (cond (b == 45 || is_between 48 57 b) Figure Foreign))))
 
 -- A byte of a word.
 abbrev pub is_word : Sort → Bool
@@ -97,3 +108,10 @@ is_line line = nat_le (length line) line_bound && is_form line
 -- What stands between the first byte and the last.
 abbrev pub inside : List ℕ → List ℕ
 inside line = take (length line - 2) (drop 1 line)
+
+-- Its words: the pieces between the spaces inside it. After the first come its items.
+abbrev pub words : List ℕ → List (List ℕ)
+words line = pieces space (inside line)
+
+abbrev pub first_word : List ℕ → List ℕ
+first_word line = first_piece (words line)

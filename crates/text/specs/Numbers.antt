@@ -1,10 +1,11 @@
 -- Numbers in decimal. Assumes nothing.
-use Rattle.std.specs.Prelude.{ℕ, ◌^◌, Bool, cond, ◌&&◌, List, [], ◌∷◌, ◌++◌, length, Option, Some, None, ℤ, bytes_eq, nat_le, nat_lt, codes}
+use Rattle.std.specs.Prelude.{ℕ, ◌^◌, Bool, cond, ◌&&◌, List, [], ◌∷◌, ◌++◌, length, Option, Some, None, option_map, ℤ, bytes_eq, nat_le, nat_lt, codes}
 use lib.Signed.{mag}
+use Rattle.std.specs.Option.{option_zip}
 use Rattle.std.specs.Fmt.{signed_decimal}
 use Rattle.std.specs.Str.Parse.{signed_digits_value}
 
--- The number is small enough for a line; none that a line takes is outside.
+-- The number is from −2^32 to 2^32 − 1, as `mag` of a negative one is one less than its size; none that a line takes is outside.
 abbrev pub is_small : ℤ → Bool
 is_small z = nat_lt (mag z) (2 ^ 32)
 
@@ -16,16 +17,14 @@ written_as bytes z = cond (is_small z && bytes_eq (signed_decimal z) bytes) (Som
 abbrev pub number : List ℕ → Option ℤ
 number bytes = written_as bytes (signed_digits_value 10 bytes)
 
--- One before the others, if all are there.
-abbrev pub also : {A : Type 0} → Option A → Option (List A) → Option (List A)
-also None others = None
-also (Some x) None = None
-also (Some x) (Some xs) = Some (x ∷ xs)
+-- Two joined, where both are there.
+abbrev pub both : {A B C : Type 0} → (A → B → C) → Option A → Option B → Option C
+both join a b = option_map (λ p. join p.0 p.1) (option_zip a b)
 
 -- The numbers that the words write, if all do.
 abbrev pub numbers : List (List ℕ) → Option (List ℤ)
 numbers [] = Some []
-numbers (word ∷ words) = also (number word) (numbers words)
+numbers (word ∷ words) = both ◌∷◌ (number word) (numbers words)
 
 -- The same, where there are at most four.
 abbrev pub at_most_four : Option (List ℤ) → Option (List ℤ)

@@ -1,5 +1,6 @@
 -- What texts say, and what reading one leaves in memory. Assumes nothing.
-use Rattle.std.specs.Prelude.{◌≡◌, ℕ, ◌+◌, ◌*◌, Bool, true, false, cond, ◌||◌, List, [], ◌∷◌, ◌++◌, length, drop, replicate, slice_set, Option, Some, None, Result, Ok, Err, MatchResult, unwrap_or, ok_or, nat_lt, ℤ}
+use Rattle.std.specs.Prelude.{◌≡◌, ℕ, ◌+◌, ◌*◌, Bool, cond, ◌||◌, List, [], ◌∷◌, ◌++◌, length, drop, replicate, slice_set, Option, Some, None, Result, Ok, Err, MatchResult, unwrap_or, ok_or, nat_lt, ℤ}
+use Rattle.std.specs.Result.{result_map_both}
 use Rattle.model.specs.declared.flags.FlagSet.{FlagSet}
 use Rattle.model.specs.declared.band.Span.{Span}
 use Rattle.text.specs.declared.fault.Fault.{Fault}
@@ -20,11 +21,11 @@ use Rattle.text.specs.declared.row.Due.TheVariants.{Header as HeaderDue}
 use Rattle.text.specs.declared.order.TextOrder.{TextOrder}
 use Rattle.text.specs.declared.reading.SideRead.{SideRead}
 use Rattle.text.specs.declared.reading.TwoRead.{TwoRead}
-use Rattle.text.specs.Lines.{pieces, is_line, inside}
+use Rattle.text.specs.Lines.{newline, pieces, is_line, inside, first_word}
 use Rattle.text.specs.Words.{word_of}
 use Rattle.text.specs.OrderLines.{is_order_word, order_named, text_understood}
 use Rattle.text.specs.Faults.{refused, place, line_alone}
-use Rattle.text.specs.Rows.{label_places, step_places, is_machine, side_of, side_of_line, row_of, after, may_end}
+use Rattle.text.specs.Rows.{same_side, label_places, step_places, is_machine, side_of, side_of_line, row_of, after, may_end}
 
 -- The most bytes of a text.
 abbrev pub text_bound : ℕ
@@ -36,13 +37,6 @@ refused_on side k fault = Err (refused fault (Some (place side k)))
 -- The rows of a text, each with its side.
 abbrev pub Rows : Type 0 → Type 0
 Rows L = List (Side × Row L)
-
--- The two are the same.
-abbrev pub is_on : Side → Side → Bool
-is_on Order Order = true
-is_on Left Left = true
-is_on Right Right = true
-is_on side other = false
 
 -- What is wrong with the end of a text, where this follows the last newline.
 abbrev pub end_fault : Due → List ℕ → Option Fault
@@ -59,13 +53,11 @@ module _ {L : Type 0} where
   ended side k (Some fault) = refused_on side k fault
 
   abbrev pub also_row : Side × Row L → Result (Rows L) (Refused Place) → Result (Rows L) (Refused Place)
-  also_row r (Ok rs) = Ok (r ∷ rs)
-  also_row r (Err e) = Err e
+  also_row r rows = result_map_both (λ rs. r ∷ rs) (λ e. e) rows
 
   -- A line's fault gains its place.
   abbrev pub placed : Side → ℕ → Result (Row L) Fault → Result (Row L) (Refused Place)
-  placed side k (Err fault) = refused_on side k fault
-  placed side k (Ok r) = Ok r
+  placed side k row = result_map_both (λ r. r) (λ fault. refused fault (Some (place side k))) row
 
   -- A row comes before those of the lines after it.
   abbrev pub then_rows : Side → Result (Row L) (Refused Place) → (Row L → Result (Rows L) (Refused Place)) → Result (Rows L) (Refused Place)
@@ -75,21 +67,21 @@ module _ {L : Type 0} where
   -- What the rows of a side say: its form and count, its labels, and the places of its steps.
   abbrev pub header_on : Side → Rows L → Option SideRead
   header_on side [] = None
-  header_on side ((other, Header form n) ∷ rs) = cond (is_on side other) (Some (side_read form n)) (header_on side rs)
+  header_on side ((other, Header form n) ∷ rs) = cond (same_side side other) (Some (side_read form n)) (header_on side rs)
   header_on side ((other, Label s l) ∷ rs) = header_on side rs
   header_on side ((other, Step q) ∷ rs) = header_on side rs
 
   abbrev pub labels_on : Side → Rows L → List L
   labels_on side [] = []
   labels_on side ((other, Header form n) ∷ rs) = labels_on side rs
-  labels_on side ((other, Label s l) ∷ rs) = cond (is_on side other) (l ∷ labels_on side rs) (labels_on side rs)
+  labels_on side ((other, Label s l) ∷ rs) = cond (same_side side other) (l ∷ labels_on side rs) (labels_on side rs)
   labels_on side ((other, Step q) ∷ rs) = labels_on side rs
 
   abbrev pub places_on : Side → Rows L → List ℕ
   places_on side [] = []
   places_on side ((other, Header form n) ∷ rs) = places_on side rs
   places_on side ((other, Label s l) ∷ rs) = places_on side rs
-  places_on side ((other, Step q) ∷ rs) = cond (is_on side other) (q ∷ places_on side rs) (places_on side rs)
+  places_on side ((other, Step q) ∷ rs) = cond (same_side side other) (q ∷ places_on side rs) (places_on side rs)
 
 module _ {L : Type 0} (understood : List ℤ → Option L) (shape : Shape) where
   -- The rows of the pieces of a text from line k on, or its first faulty line with its smallest fault.
@@ -103,13 +95,9 @@ abbrev pub order_by : List ℕ → Option Word → Result TextOrder Fault
 order_by line None = Err UnknownWord
 order_by line (Some w) = cond (is_order_word w) (ok_or (order_named (inside line)) WrongItems) (Err OutOfOrder)
 
-abbrev pub order_in : List ℕ → List (List ℕ) → Result TextOrder Fault
-order_in line [] = Err UnknownWord
-order_in line (first ∷ words) = order_by line (word_of first)
-
 -- What the line of an order says, or its fault of the smallest number.
 abbrev pub order_of : List ℕ → Result TextOrder Fault
-order_of line = cond (is_line line) (order_in line (pieces 32 (inside line))) (Err NoForm)
+order_of line = cond (is_line line) (order_by line (word_of (first_word line))) (Err NoForm)
 
 -- What a text of two machines says: its order, and the rows of both sides.
 pub record Said : Type 0 where
@@ -117,8 +105,7 @@ pub record Said : Type 0 where
   pub rows : Rows (FlagSet × Span)
 
 abbrev pub ordered : TextOrder → Result (Rows (FlagSet × Span)) (Refused Place) → Result Said (Refused Place)
-ordered order (Ok rs) = Ok (record { order = order; rows = rs })
-ordered order (Err e) = Err e
+ordered order rows = result_map_both (λ rs. record { order = order; rows = rs }) (λ e. e) rows
 
 -- What the first of the pieces of a text says, where more follow it and so a newline ends it.
 abbrev pub first_line : List (List ℕ) → Result TextOrder Fault
@@ -135,11 +122,11 @@ abbrev pub two_in : List (List ℕ) → Result Said (Refused Place)
 two_in lines = then_sides (first_line lines) (drop 1 lines)
 
 abbrev pub two_said : List ℕ → Result Said (Refused Place)
-two_said text = two_in (pieces 10 text)
+two_said text = two_in (pieces newline text)
 
 -- What the text of a machine alone says, which is read as a right side from line 1.
 abbrev pub alone_said : {L : Type 0} → (List ℤ → Option L) → List ℕ → Result (Rows L) (Refused Place)
-alone_said understood text = rows understood Alone (HeaderDue Right 0) 1 (pieces 10 text)
+alone_said understood text = rows understood Alone (HeaderDue Right 0) 1 (pieces newline text)
 
 -- A byte of 1 at each of the places, among n×n of 0.
 abbrev pub marked_at : List ℕ → List ℕ → List ℕ
@@ -161,42 +148,40 @@ no_side = side_read Machine 0
 abbrev pub steps_after : SideRead → List ℕ → List ℕ → List ℕ
 steps_after side places memory = cond (is_machine side.form) (over (grid side.count places) memory) memory
 
-abbrev pub is_short_of : {L : Type 0} → List L → List ℕ → Bool
-is_short_of labels steps = nat_lt (length labels) label_places || nat_lt (length steps) step_places
-
 -- Why a text is refused before its lines are read: it is too long, or memory is short.
 abbrev pub unless_refused : {A P : Type 0} → List ℕ → P → Bool → Result A (Refused P) → Result A (Refused P)
 unless_refused text first is_short read =
     cond (nat_lt text_bound (length text)) (Err (refused TooLong (Some first))) (cond is_short (Err (refused ShortMemory None)) read)
 
 abbrev pub by_line : {A : Type 0} → Result A (Refused Place) → Result A (Refused ℕ)
-by_line (Ok a) = Ok a
-by_line (Err e) = Err (line_alone e)
+by_line read = result_map_both (λ a. a) line_alone read
 
 -- What a side is.
 abbrev pub side_said : {L : Type 0} → Side → Rows L → SideRead
 side_said side rs = unwrap_or (header_on side rs) no_side
 
--- Reading a machine alone answers its count, and fills memory; a refusal leaves it.
-abbrev pub ReadsAlone : {L : Type 0} → (List ℤ → Option L) → List ℕ → List L → List ℕ → Result ℕ (Refused ℕ) → List L → List ℕ → Type 0
-ReadsAlone understood text labels steps r labels_after steps_then =
-    MatchResult (unless_refused text 1 (is_short_of labels steps) (by_line (alone_said understood text)))
-    (λ rs. (r ≡ Ok (side_said Right rs).count) × (labels_after ≡ over (labels_on Right rs) labels) × (steps_then ≡ steps_after (side_said Right rs) (places_on Right rs) steps))
-    (λ e. (r ≡ Err e) × (labels_after ≡ labels) × (steps_then ≡ steps))
-
 -- The memory of a side.
-pub record SideMemory : Type 0 where
-  pub labels : List (FlagSet × Span)
+pub record SideMemory (L : Type 0) : Type 0 where
+  pub labels : List L
   pub steps : List ℕ
 
-abbrev pub side_memory : List (FlagSet × Span) → List ℕ → SideMemory
-side_memory labels steps = record { labels = labels; steps = steps }
+module _ {L : Type 0} where
+  abbrev pub side_memory : List L → List ℕ → SideMemory L
+  side_memory labels steps = record { labels = labels; steps = steps }
 
-abbrev pub filled : Side → Rows (FlagSet × Span) → SideMemory → SideMemory
-filled side rs mem = side_memory (over (labels_on side rs) mem.labels) (steps_after (side_said side rs) (places_on side rs) mem.steps)
+  abbrev pub is_short : SideMemory L → Bool
+  is_short memory = nat_lt (length memory.labels) label_places || nat_lt (length memory.steps) step_places
 
-abbrev pub is_short : SideMemory → Bool
-is_short mem = is_short_of mem.labels mem.steps
+  -- What the rows of a side say, over memory.
+  abbrev pub filled : Side → Rows L → SideMemory L → SideMemory L
+  filled side rs memory = side_memory (over (labels_on side rs) memory.labels) (steps_after (side_said side rs) (places_on side rs) memory.steps)
+
+  -- Reading a machine alone answers its count, and fills memory; a refusal leaves it.
+  abbrev pub ReadsAlone : (List ℤ → Option L) → List ℕ → SideMemory L → Result ℕ (Refused ℕ) → SideMemory L → Type 0
+  ReadsAlone understood text memory r after =
+      MatchResult (unless_refused text 1 (is_short memory) (by_line (alone_said understood text)))
+      (λ rs. (r ≡ Ok (side_said Right rs).count) × (after ≡ filled Right rs memory))
+      (λ e. (r ≡ Err e) × (after ≡ memory))
 
 abbrev pub two_read : Said → TwoRead
 two_read said = record {
@@ -206,7 +191,7 @@ two_read said = record {
 }
 
 -- Reading two machines answers the order, what the left is and both counts, and fills the memory of both sides.
-abbrev pub ReadsTwo : List ℕ → SideMemory → SideMemory → Result TwoRead (Refused Place) → SideMemory → SideMemory → Type 0
+abbrev pub ReadsTwo : List ℕ → SideMemory (FlagSet × Span) → SideMemory (FlagSet × Span) → Result TwoRead (Refused Place) → SideMemory (FlagSet × Span) → SideMemory (FlagSet × Span) → Type 0
 ReadsTwo text left right r left_after right_after =
     MatchResult (unless_refused text (place Order 1) (is_short left || is_short right) (two_said text))
     (λ said. (r ≡ Ok (two_read said)) × (left_after ≡ filled Left said.rows left) × (right_after ≡ filled Right said.rows right))

@@ -1,5 +1,6 @@
 -- What the lines of a machine's text say, and in which order they come. Assumes nothing.
-use Rattle.std.specs.Prelude.{ℕ, ◌+◌, ◌*◌, Bool, true, false, cond, ◌&&◌, ◌||◌, List, [], ◌∷◌, Option, Some, None, Result, Ok, Err, ◌==◌, nat_le, nat_lt, ℤ, pos, negsuc}
+use Rattle.std.specs.Prelude.{ℕ, ◌+◌, ◌*◌, Bool, true, false, cond, ◌&&◌, ◌||◌, List, [], ◌∷◌, drop, Option, Some, None, Result, Ok, Err, ◌==◌, nat_le, nat_lt, ℤ, pos, negsuc}
+use Rattle.std.specs.Option.{option_map_or}
 use Rattle.text.specs.declared.fault.Fault.{Fault}
 use Rattle.text.specs.declared.fault.Fault.TheVariants.{NoForm, UnknownWord, WrongItems, OutOfOrder, WrongCount}
 use Rattle.text.specs.declared.fault.Side.{Side}
@@ -15,7 +16,7 @@ use Rattle.text.specs.declared.row.Row.{Row}
 use Rattle.text.specs.declared.row.Row.TheVariants.{Header, Label, Step}
 use Rattle.text.specs.declared.row.Due.{Due}
 use Rattle.text.specs.declared.row.Due.TheVariants.{Header as HeaderDue, Label as LabelDue, Step as StepDue}
-use Rattle.text.specs.Lines.{pieces, is_line, inside}
+use Rattle.text.specs.Lines.{is_line, words, first_word}
 use Rattle.text.specs.Numbers.{numbers}
 use Rattle.text.specs.Words.{word_of}
 
@@ -37,15 +38,11 @@ largest_number = 65535
 abbrev pub part : Side → Form → ℕ → Part
 part side form count = record { side = side; form = form; count = count }
 
-abbrev pub is_left : Side → Bool
-is_left Order = false
-is_left Left = true
-is_left Right = false
-
-abbrev pub is_right : Side → Bool
-is_right Order = false
-is_right Left = false
-is_right Right = true
+abbrev pub same_side : Side → Side → Bool
+same_side Order Order = true
+same_side Left Left = true
+same_side Right Right = true
+same_side side other = false
 
 abbrev pub is_machine : Form → Bool
 is_machine Machine = true
@@ -62,10 +59,10 @@ knows Alone w = false
 -- Whether a word may come next: a trace only on the left, steps after a machine's labels, and the right after the left.
 abbrev pub is_due : Due → Word → Bool
 is_due (HeaderDue side before) MachineWord = true
-is_due (HeaderDue side before) TraceWord = is_left side
+is_due (HeaderDue side before) TraceWord = same_side Left side
 is_due (LabelDue at s) LabelWord = true
 is_due (StepDue at place) StepWord = is_machine at.form
-is_due (StepDue at place) MachineWord = is_left at.side
+is_due (StepDue at place) MachineWord = same_side Left at.side
 is_due due w = false
 
 -- The side that is being read.
@@ -146,32 +143,23 @@ module _ {L : Type 0} (understood : List ℤ → Option L) where
 
   -- A word that is not due has its items unread.
   abbrev pub row_by : Shape → Due → Option Word → List (List ℕ) → Result (Row L) Fault
-  row_by shape due None words = Err UnknownWord
-  row_by shape due (Some w) words =
-      cond (knows shape w) (cond (is_due due w) (row_with due w (numbers words)) (Err OutOfOrder)) (Err UnknownWord)
-
-  abbrev pub row_in : Shape → Due → List (List ℕ) → Result (Row L) Fault
-  row_in shape due [] = Err UnknownWord
-  row_in shape due (first ∷ words) = row_by shape due (word_of first) words
+  row_by shape due None items = Err UnknownWord
+  row_by shape due (Some w) items =
+      cond (knows shape w) (cond (is_due due w) (row_with due w (numbers items)) (Err OutOfOrder)) (Err UnknownWord)
 
   -- What a line says where `due` comes next, or its fault of the smallest number.
   abbrev pub row_of : Shape → Due → List ℕ → Result (Row L) Fault
-  row_of shape due line = cond (is_line line) (row_in shape due (pieces 32 (inside line))) (Err NoForm)
+  row_of shape due line = cond (is_line line) (row_by shape due (word_of (first_word line)) (drop 1 (words line))) (Err NoForm)
 
 abbrev pub side_by : Due → Option Word → Side
-side_by due None = side_of due
-side_by due (Some w) = side_at due w
-
-abbrev pub side_in : Due → List (List ℕ) → Side
-side_in due [] = side_of due
-side_in due (first ∷ words) = side_by due (word_of first)
+side_by due word = option_map_or (side_at due) word (side_of due)
 
 -- The side of a line.
 abbrev pub side_of_line : Due → List ℕ → Side
-side_of_line due line = cond (is_line line) (side_in due (pieces 32 (inside line))) (side_of due)
+side_of_line due line = cond (is_line line) (side_by due (word_of (first_word line))) (side_of due)
 
 -- Whether the text may end: after a machine on the right.
 abbrev pub may_end : Due → Bool
 may_end (HeaderDue side before) = false
 may_end (LabelDue at s) = false
-may_end (StepDue at place) = is_right at.side
+may_end (StepDue at place) = same_side Right at.side

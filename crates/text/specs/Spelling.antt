@@ -1,8 +1,9 @@
 -- Labels as numbers: how the labels of an order stand in a text. Assumes nothing.
 use Rattle.std.specs.Prelude.{◌≡◌, ℕ, ◌^◌, ◌≤◌, Bool, cond, ◌&&◌, T, List, [], ◌∷◌, ◌++◌, length, Option, Some, None, ℤ, pos, negsuc, int_le, nat_lt, All}
+use Rattle.std.specs.Option.{option_zip}
 use Rattle.model.specs.declared.flags.FlagSet.{FlagSet}
 use Rattle.model.specs.declared.band.Span.{Span}
-use Rattle.text.specs.Numbers.{is_small}
+use Rattle.text.specs.Numbers.{is_small, both}
 
 -- What a kind of label owes: the numbers that write a label are those that it is read from, at most three, and small.
 pub record Spelling {L : Type 0} (spelled : L → Option (List ℤ)) (understood : List ℤ → Option L) : Type 0 where
@@ -44,20 +45,10 @@ band_understood (z ∷ []) = None
 band_understood (y ∷ z ∷ []) = cond (fits (span y z)) (Some (span y z)) None
 band_understood (x ∷ y ∷ z ∷ zs) = None
 
-abbrev pub joined : Option (List ℤ) → Option (List ℤ) → Option (List ℤ)
-joined None zs = None
-joined (Some ys) None = None
-joined (Some ys) (Some zs) = Some (ys ++ zs)
-
-abbrev pub paired : Option FlagSet → Option Span → Option (FlagSet × Span)
-paired None s = None
-paired (Some f) None = None
-paired (Some f) (Some s) = Some (f, s)
-
 -- A pair of both is the flags, then the band.
 abbrev pub both_spelled : FlagSet × Span → Option (List ℤ)
-both_spelled l = joined (flags_spelled l.0) (band_spelled l.1)
+both_spelled l = both ◌++◌ (flags_spelled l.0) (band_spelled l.1)
 
 abbrev pub both_understood : List ℤ → Option (FlagSet × Span)
 both_understood [] = None
-both_understood (z ∷ zs) = paired (flags_of z) (band_understood zs)
+both_understood (z ∷ zs) = option_zip (flags_of z) (band_understood zs)

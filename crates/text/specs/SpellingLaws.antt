@@ -3,7 +3,8 @@ use Rattle.std.specs.Prelude.{◌≡◌, ◌^◌, Bool, true, false, cond, List,
 use Rattle.std.proofs.Common.{rules}
 use Rattle.model.specs.declared.flags.FlagSet.{FlagSet}
 use Rattle.model.specs.declared.band.Span.{Span}
-use Rattle.text.specs.Spelling.{Spelling, flags_spelled, flags_understood, band_spelled, band_understood, fits, joined, both_spelled, both_understood}
+use Rattle.text.specs.Numbers.{both}
+use Rattle.text.specs.Spelling.{Spelling, flags_spelled, flags_understood, band_spelled, band_understood, fits, both_spelled, both_understood}
 
 flags_back : (zs : List ℤ) (f : FlagSet) → flags_understood zs ≡ Some f → flags_spelled f ≡ Some zs
 flags_back [] f e = cc
@@ -34,7 +35,7 @@ band_spelling = record {
 }
 
 -- What is joined of two parts that may be missing has both.
-joined_parts : (a b : Bool) (xs ys zs : List ℤ) → joined (cond a (Some xs) None) (cond b (Some ys) None) ≡ Some zs → (a ≡ true) × (b ≡ true) × (xs ++ ys ≡ zs)
+joined_parts : (a b : Bool) (xs ys zs : List ℤ) → both ◌++◌ (cond a (Some xs) None) (cond b (Some ys) None) ≡ Some zs → (a ≡ true) × (b ≡ true) × (xs ++ ys ≡ zs)
 joined_parts true true xs ys zs e = search rules
 joined_parts true false xs ys zs e = cc
 joined_parts false b xs ys zs e = cc

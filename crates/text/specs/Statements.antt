@@ -11,17 +11,17 @@ use Rattle.text.specs.declared.order.TextOrder.{TextOrder}
 use Rattle.text.specs.OrderLines.{text_spelled}
 use Rattle.text.specs.Rows.{text_states}
 use Rattle.text.specs.Readings.{Rows, Said, alone_said, two_said, labels_on, places_on, header_on, side_said, side_read, grid, text_bound}
-use Rattle.text.specs.Writings.{all_spelled, machine_lines, two_lines}
+use Rattle.text.specs.Writings.{all_spelled, written, two_lines}
 
 module _ {L : Type 0} where
-  -- The machine of these labels, and of steps at these places or those of a trace.
+  -- A table of labels and step bytes, or a trace of the labels.
   abbrev pub machine_of : Form → List L → List ℕ → Meaning L
-  machine_of Machine labels places = table_meaning labels (grid (length labels) places)
-  machine_of Trace labels places = trace_meaning labels
+  machine_of Machine labels steps = table_meaning labels steps
+  machine_of Trace labels steps = trace_meaning labels
 
   -- The machine that the rows of a side say.
   abbrev pub machine_on : Side → Rows L → Meaning L
-  machine_on side rs = machine_of (side_said side rs).form (labels_on side rs) (places_on side rs)
+  machine_on side rs = machine_of (side_said side rs).form (labels_on side rs) (grid (length (labels_on side rs)) (places_on side rs))
 
   pub record SameMachine (m n : Meaning L) : Type 0 where
     pub labels : m.labels ≡ n.labels
@@ -33,26 +33,25 @@ module _ {L : Type 0} where
     pub numbers : List (List ℤ)
     pub spelled_so : all_spelled spelled (labels_on side rs) ≡ Some numbers
 
-module _ {L : Type 0} (spelled : L → Option (List ℤ)) (understood : List ℤ → Option L) where
-  -- A text that is read is the text of the machine that it says.
-  pub record IsText (text : List ℕ) (rs : Rows L) : Type 0 where
-    pub side : SideWritten spelled Right Machine rs
-    pub is : text ≡ machine_lines (machine_on Right rs) side.numbers
+-- A text that is read is the one that is written for the machine that it says, whose states its header counts.
+pub record IsText {L : Type 0} (spelled : L → Option (List ℤ)) (text : List ℕ) (rs : Rows L) : Type 0 where
+  pub counted : side_said Right rs ≡ side_read Machine (states (machine_on Right rs))
+  pub is : written spelled (machine_on Right rs) (length text) ≡ Ok text
 
-  abbrev pub ReadIsWritten : Type 0
-  ReadIsWritten = (text : List ℕ) (rs : Rows L) → alone_said understood text ≡ Ok rs → IsText text rs
+abbrev pub ReadIsWritten : {L : Type 0} → (L → Option (List ℤ)) → (List ℤ → Option L) → Type 0
+ReadIsWritten {L} spelled understood = (text : List ℕ) (rs : Rows L) → alone_said understood text ≡ Ok rs → IsText spelled text rs
 
-  -- The text of a machine says the same machine, and is not too long.
-  pub record SaysSame (m : Meaning L) (text : List ℕ) : Type 0 where
-    pub rs : Rows L
-    pub said : alone_said understood text ≡ Ok rs
-    pub same : SameMachine (machine_on Right rs) m
-    pub short : length text ≤ text_bound
+-- The text is read, says the same machine, and is not too long.
+pub record SaysSame {L : Type 0} (understood : List ℤ → Option L) (m : Meaning L) (text : List ℕ) : Type 0 where
+  pub rs : Rows L
+  pub said : alone_said understood text ≡ Ok rs
+  pub same : SameMachine (machine_on Right rs) m
+  pub short : length text ≤ text_bound
 
-  abbrev pub WrittenIsRead : Type 0
-  WrittenIsRead =
-      (m : Meaning L) → Bounded m → 0 < states m → (numbers : List (List ℤ)) → all_spelled spelled m.labels ≡ Some numbers →
-      SaysSame m (machine_lines m numbers)
+-- A text that is written for a machine says the same machine.
+abbrev pub WrittenIsRead : {L : Type 0} → (L → Option (List ℤ)) → (List ℤ → Option L) → Type 0
+WrittenIsRead {L} spelled understood =
+    (m : Meaning L) → Bounded m → (room : ℕ) (text : List ℕ) → written spelled m room ≡ Ok text → SaysSame understood m text
 
 -- No two texts say the same machine.
 abbrev pub SameText : {L : Type 0} → (List ℤ → Option L) → Type 0

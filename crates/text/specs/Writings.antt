@@ -8,7 +8,7 @@ use Rattle.text.specs.declared.word.Word.TheVariants.{Machine as MachineWord, Tr
 use Rattle.text.specs.declared.row.Form.{Form}
 use Rattle.text.specs.declared.row.Form.TheVariants.{Machine, Trace}
 use Rattle.text.specs.declared.order.TextOrder.{TextOrder}
-use Rattle.text.specs.Numbers.{also, items}
+use Rattle.text.specs.Numbers.{both, items}
 use Rattle.text.specs.Words.{letters_of}
 use Rattle.text.specs.OrderLines.{order_letters}
 use Rattle.text.specs.Rows.{text_states}
@@ -34,7 +34,7 @@ step_line s t = line Step (pos s ∷ pos t ∷ [])
 -- The numbers of all labels, where all can be written.
 abbrev pub all_spelled : {L : Type 0} → (L → Option (List ℤ)) → List L → Option (List (List ℤ))
 all_spelled spelled [] = Some []
-all_spelled spelled (l ∷ ls) = also (spelled l) (all_spelled spelled ls)
+all_spelled spelled (l ∷ ls) = both ◌∷◌ (spelled l) (all_spelled spelled ls)
 
 -- The lines of labels, from that of state s on.
 abbrev pub label_lines : ℕ → List (List ℤ) → List ℕ
@@ -78,14 +78,18 @@ is_miscounted m = states m == 0 || nat_lt text_states (states m)
 abbrev pub fitting : ℕ → List ℕ → Result (List ℕ) Fault
 fitting room text = cond (nat_lt room (length text)) (Err ShortMemory) (Ok text)
 
+-- The text of a machine whose labels are written by these numbers, or why it is not written.
+abbrev pub written_by : {L : Type 0} → Meaning L → Option (List (List ℤ)) → ℕ → Result (List ℕ) Fault
+written_by m None room = Err WrongItems
+written_by m (Some labels) room = cond (is_miscounted m) (Err WrongCount) (fitting room (machine_lines m labels))
+
 -- The text of a machine for so much room, or why it is not written: a label that cannot be, a count, or the room.
-abbrev pub written : {L : Type 0} → Meaning L → Option (List (List ℤ)) → ℕ → Result (List ℕ) Fault
-written m None room = Err WrongItems
-written m (Some labels) room = cond (is_miscounted m) (Err WrongCount) (fitting room (machine_lines m labels))
+abbrev pub written : {L : Type 0} → (L → Option (List ℤ)) → Meaning L → ℕ → Result (List ℕ) Fault
+written spelled m room = written_by m (all_spelled spelled m.labels) room
 
 -- Writing a machine answers the length of its text, which memory then begins with; a refusal leaves memory.
 abbrev pub WritesMachine : {L : Type 0} → (L → Option (List ℤ)) → Meaning L → List ℕ → Result ℕ Fault → List ℕ → Type 0
 WritesMachine spelled m out r after =
-    MatchResult (written m (all_spelled spelled m.labels) (length out))
+    MatchResult (written spelled m (length out))
     (λ text. (r ≡ Ok (length text)) × (after ≡ over text out))
     (λ fault. (r ≡ Err fault) × (after ≡ out))

@@ -1,6 +1,6 @@
 //! What is wrong with a text, and where.
 ghost use Rattle.std.specs.Prelude.{◌≡◌, Some};
-ghost use Rattle.text.specs.Faults.{number_of, words_of, refused_at, on_side, line_alone};
+ghost use Rattle.text.specs.Faults.{number_of, words_of, refused_at, line_alone};
 
 use std::error::Error;
 use std::fmt;
@@ -62,7 +62,9 @@ impl Error for Fault {}
 pub enum Side {
     /// The line that names the order.
     Order,
+    /// The first machine, or the trace in its place.
     Left,
+    /// The second machine, or a machine alone.
     Right,
 }
 
@@ -73,7 +75,7 @@ pub struct Place {
     pub line: usize,
 }
 
-/// Why a text is refused, and at which line. Short memory has no place.
+/// Why a text is refused, and where: `P` is the number of a line, counted from 1, or a `Place`. Short memory has no place.
 #[derive(Clone, Copy, PartialEq, Eq, Debug)]
 pub struct Refused<P> {
     pub fault: Fault,
@@ -88,18 +90,6 @@ impl Fault {
         Refused {
             fault: self,
             place: Some(line),
-        }
-    }
-}
-
-impl Refused<usize> {
-    /// The same on a side of a text of two machines.
-    pub(crate) fn on(self, side: Side) -> Refused<Place>
-        ensures { result ≡ on_side side self }
-    {
-        Refused {
-            fault: self.fault,
-            place: self.place.map(|line| Place { side, line }),
         }
     }
 }

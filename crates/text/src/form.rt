@@ -5,7 +5,7 @@ ghost use Rattle.text.specs.FormulaTexts.{deepest};
 ghost use Rattle.text.specs.declared.form.Sort.TheVariants.{Letter};
 
 /// The most bytes of a line, without its newline.
-pub const LINE_BOUND: usize = 512;
+const LINE_BOUND: usize = 512;
 
 /// What a byte is for a line.
 #[derive(Clone, Copy, PartialEq, Eq, Debug)]

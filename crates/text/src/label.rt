@@ -28,7 +28,7 @@ pub trait Spelled: Order {
     fn label(&self, numbers: &[i64]) -> Option<Self::Label>
         ensures { result ≡ understood self.now numbers.now };
 
-    /// The two are inverse to each other.
+    /// The two are inverse to each other, and the numbers are few and small.
     ghost spelling: { (o : Self) → Spelling (spelled o) (understood o) };
 }
 

@@ -1,30 +1,32 @@
-//! Text read and written.
+//! Texts of machines, read and written.
 #![tactic(auto)]
 
 mod cut;
-pub mod fault;
-pub mod form;
+mod fault;
+mod form;
 mod formula;
-pub mod label;
+mod label;
+mod lent;
 mod line;
 mod number;
-pub mod order;
+mod order;
 mod order_line;
-pub mod print;
+mod question;
 mod reader;
-pub mod reading;
-pub mod reading_formula;
-pub mod row;
+mod reading;
+mod reading_formula;
+mod row;
 pub mod theory;
-pub mod word;
-pub mod writing;
+mod word;
+mod writing;
 
 pub use fault::{Fault, Place, Refused, Side};
 pub use formula::FORMULA_PLACES;
 pub use label::{LABEL_NUMBERS, Numbers, Spelled};
+pub use lent::{LABEL_PLACES, STEP_PLACES};
 pub use order::{Base, TextOrder};
-pub use print::{HoldsLine, holds_lines};
-pub use reading::{SideRead, TwoRead};
+pub use question::{Parts, cut_question};
+pub use reading::{SideRead, TEXT_BOUND, TwoRead, read_machine, read_two};
 pub use reading_formula::{formula_text_says_one, read_formula};
-pub use row::Form;
+pub use row::{Form, TEXT_STATES};
 pub use writing::write_machine;

@@ -1,6 +1,6 @@
 //! What one line says.
-ghost use Rattle.std.specs.Prelude.{◌≡◌, ◌∷◌, ◌≤◌, List, ℕ, true, Some, IfOk, IfSome};
-ghost use Rattle.text.specs.Lines.{pieces, pieces_of, is_line, inside};
+ghost use Rattle.std.specs.Prelude.{◌≡◌, ◌≤◌, true, drop, Some, IfOk, IfSome};
+ghost use Rattle.text.specs.Lines.{space, pieces_of, is_line, inside, words, first_word};
 ghost use Rattle.text.specs.Words.{word_of};
 ghost use Rattle.text.specs.Rows.{state_number, header, label, step, stepped, largest_number, row, row_by};
 ghost use Rattle.text.specs.declared.row.Due.TheVariants.{Step as StepDue};
@@ -24,7 +24,8 @@ pub(crate) fn inside(line: &[u8]) -> &[u8]
 /// The first word of a line, where it is one of a text, and its items.
 pub(crate) fn word_and_items(line: &[u8]) -> (Option<Word>, Option<&[u8]>)
     requires { is_line line.now ≡ true }
-    ensures { (first : List ℕ) × (pieces 32 (inside line.now) ≡ first ∷ pieces_of 32 result.1) × (result.0 ≡ word_of first) }
+    ensures word { result.0 ≡ word_of (first_word line.now) }
+    ensures items { pieces_of space result.1 ≡ drop 1 (words line.now) }
 {
     let (first, items) = cut(inside(line), b' ');
     (Word::of(first), items)
@@ -123,7 +124,7 @@ pub(crate) fn row_by<O: Spelled>(
     items: Option<&[u8]>,
 ) -> Result<Row<O::Label>, Fault>
     requires { Within due }
-    ensures says { result ≡ row_by (O.Spelled.understood order.now) shape due word (pieces_of 32 items.entry) }
+    ensures says { result ≡ row_by (O.Spelled.understood order.now) shape due word (pieces_of space items.entry) }
     ensures fits { IfOk result (λ r. Fits due r) }
 {
     let word = word

@@ -10,7 +10,9 @@ use model::{Band, Both, Exact, FlagSet, Flags, Order, Span, Turned};
 /// What an order looks at: the labels of every text are pairs of a set of flags and a band.
 #[derive(Clone, Copy, PartialEq, Eq, Debug)]
 pub enum Base {
+    /// A label is at most those that have all its flags.
     Flags,
+    /// A label is at most those whose band lies inside its own.
     Band,
 }
 
@@ -62,9 +64,13 @@ impl Spelled for Base {
 /// An order that a text may name.
 #[derive(Clone, Copy, PartialEq, Eq, Debug)]
 pub enum TextOrder {
+    /// As the base says.
     Plain(Base),
+    /// The base with its two labels exchanged.
     Turned(Base),
+    /// The base both ways: what it looks at is the same.
     Exact(Base),
+    /// The flags and the band at once.
     Both,
 }
 
@@ -159,7 +165,7 @@ impl TextOrder {
 
 impl Word {
     /// Whether a line that names an order begins with it.
-    pub fn is_order(self) -> bool
+    pub(crate) fn is_order(self) -> bool
         ensures { result ≡ is_order_word self }
     {
         matches!(

@@ -1,7 +1,8 @@
 //! The line that names the order of a text.
 ghost use Rattle.std.specs.Prelude.{◌≡◌, ◌<◌, length, drop, Ok, Err, IfOk, MatchResult};
-ghost use Rattle.text.specs.Lines.{pieces};
+ghost use Rattle.text.specs.Lines.{newline, pieces};
 ghost use Rattle.text.specs.Readings.{order_of, first_line};
+ghost use Rattle.text.specs.Questions.{after_line};
 
 use crate::cut::cut;
 use crate::fault::Fault;
@@ -25,8 +26,9 @@ fn order_of(line: &[u8]) -> Result<TextOrder, Fault>
 
 /// The order that a text begins with, and the rest of the text.
 pub(crate) fn first_line(text: &[u8]) -> Result<(TextOrder, &[u8]), Fault>
-    ensures says { MatchResult result (λ p. first_line (pieces 10 text.now) ≡ Ok p.0) (λ e. first_line (pieces 10 text.now) ≡ Err e) }
-    ensures rest { IfOk result (λ p. drop 1 (pieces 10 text.now) ≡ pieces 10 p.1.now) }
+    ensures says { MatchResult result (λ p. first_line (pieces newline text.now) ≡ Ok p.0) (λ e. first_line (pieces newline text.now) ≡ Err e) }
+    ensures rest { IfOk result (λ p. drop 1 (pieces newline text.now) ≡ pieces newline p.1.now) }
+    ensures left { IfOk result (λ p. p.1.now ≡ after_line text.now) }
     ensures shorter { IfOk result (λ p. length p.1.now < length text.now) }
 {
     let (line, rest) = cut(text, b'\n');

@@ -1,8 +1,9 @@
 //! A text read line by line.
-ghost use Rattle.std.specs.Prelude.{◌≡◌, ◌+◌, ◌<◌, ◌^◌, length, IfOk};
+ghost use Rattle.std.specs.Prelude.{◌≡◌, ◌+◌, ◌<◌, ◌^◌, length, Some, IfOk};
+ghost use Rattle.text.specs.declared.row.Due.TheVariants.{Header as HeaderDue};
 ghost use Rattle.text.specs.Rows.{row_of, side_of_line};
 ghost use Rattle.text.specs.InOrder.{Within, Fits};
-ghost use Rattle.text.specs.Faults.{refused_at, on_side};
+ghost use Rattle.text.specs.Faults.{place};
 ghost use Rattle.text.specs.Readings.{end_fault, placed};
 ghost use Rattle.text.specs.Leading.{left, Leads};
 
@@ -22,6 +23,19 @@ pub(crate) struct Reader<'a> {
 }
 
 impl<'a> Reader<'a> {
+    /// The text from a side on, whose header is this line.
+    pub(crate) fn new(text: &'a [u8], line: usize, side: Side) -> Reader<'a>
+        ensures bytes { result.text.now ≡ text.now }
+        ensures line { result.line ≡ line }
+        ensures due { result.due ≡ HeaderDue side 0 }
+    {
+        Reader {
+            text,
+            line,
+            due: Due::Header(side, 0),
+        }
+    }
+
     /// The side of the next line, and what it says there, or what is wrong with it.
     fn says<O: Spelled>(
         &self,
@@ -44,25 +58,25 @@ impl<'a> Reader<'a> {
         )
     }
 
-    /// The fault of the next line, which gains its place.
-    fn refused(&self, side: Side, fault: Fault) -> Refused<Place>
-        ensures { result ≡ on_side side (refused_at fault self.now.line) }
+    /// The place of the next line, on this side.
+    fn place(&self, side: Side) -> Option<Place>
+        ensures { result ≡ Some (place side self.now.line) }
     {
-        fault.at(self.line).on(side)
+        Some(Place {
+            side,
+            line: self.line,
+        })
     }
 
-    /// What the next line says there, or its fault, which gains its place.
+    /// The row, or its fault at its place.
     fn placed<L>(&self, side: Side, row: Result<Row<L>, Fault>) -> Result<Row<L>, Refused<Place>>
         ensures { result ≡ placed side self.now.line row }
     {
-        let place = Some(Place {
-            side,
-            line: self.line,
-        });
+        let place = self.place(side);
         row.map_err(|fault| Refused { fault, place })
     }
 
-    /// What is wrong with the end, where this follows the last newline.
+    /// What is wrong with the end, where `last` follows the last newline.
     fn end_fault(&self, last: &[u8]) -> Option<Fault>
         ensures { result ≡ end_fault self.now.due last.now }
     {
@@ -88,7 +102,8 @@ impl<'a> Reader<'a> {
         let (line, rest) = cut(self.text, b'\n');
         let Some(rest) = rest else {
             let fault = self.end_fault(line);
-            return fault.map_or(Ok(None), |fault| Err(self.refused(self.due.side(), fault)));
+            let place = self.place(self.due.side());
+            return fault.map_or(Ok(None), |fault| Err(Refused { fault, place }));
         };
         let (side, row) = self.says(order, shape, line);
         let row = self.placed(side, row)?;

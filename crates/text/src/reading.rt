@@ -2,27 +2,22 @@
 ghost use Rattle.std.specs.Prelude.{◌≡◌, ◌+◌, ◌≤◌, ◌<◌, ◌^◌, length, option_map, Ok, Err, MatchResult, IfOk};
 ghost use Rattle.text.specs.declared.fault.Side.TheVariants.{Left, Right};
 ghost use Rattle.text.specs.Rows.{label_places, step_places};
-ghost use Rattle.text.specs.InOrder.{Within, Storable};
-ghost use Rattle.text.specs.Readings.{header_on, is_short_of, unless_refused, ReadsAlone, ReadsTwo, side_memory};
+ghost use Rattle.text.specs.InOrder.{Within};
+ghost use Rattle.text.specs.Readings.{header_on, unless_refused, ReadsAlone, ReadsTwo, side_memory};
 ghost use Rattle.text.specs.Leading.{left, rows_left};
-ghost use Rattle.text.specs.Filling.{labels_with, steps_with, labels_stored, steps_stored};
+ghost use Rattle.text.specs.Filling.{held, stored, Keeps};
 
 use crate::fault::{Fault, Place, Refused, Side};
 use crate::label::Spelled;
+use crate::lent::Lent;
 use crate::order::TextOrder;
 use crate::order_line::first_line;
 use crate::reader::Reader;
-use crate::row::{Due, Form, Row, Shape, TEXT_STATES};
+use crate::row::{Due, Form, Row, Shape};
 use model::{FlagSet, Span};
 
 /// The most bytes of a text.
 pub const TEXT_BOUND: usize = 60_000;
-
-/// The labels for which a side lends memory.
-pub const LABEL_PLACES: usize = TEXT_STATES;
-
-/// The step bytes for which a side lends memory.
-pub const STEP_PLACES: usize = TEXT_STATES * TEXT_STATES;
 
 /// What a side is, and how many states it has.
 #[derive(Clone, Copy, PartialEq, Eq, Debug)]
@@ -65,22 +60,6 @@ fn headers<O: Spelled>(
     Ok((left, right))
 }
 
-/// Stores what a row says.
-fn store<L: Copy>(row: Row<L>, labels: &mut [L], steps: &mut [u8])
-    requires row { Storable row }
-    requires labels { label_places ≤ length labels.old }
-    requires steps { step_places ≤ length steps.old }
-    ensures labels { labels.new ≡ labels_with row labels.old }
-    ensures steps { steps.new ≡ steps_with row steps.old }
-{
-    match row {
-        Row::Header(Form::Machine, count) => steps[..count * count].fill(0),
-        Row::Header(Form::Trace, _) => {}
-        Row::Label(s, label) => labels[s] = label,
-        Row::Step(place) => steps[place] = 1,
-    }
-}
-
 /// Stores the rows of a side.
 #[tactic(auto, using(crate::proofs::Storing::stored_start, crate::proofs::Storing::stored_row))]
 fn fill<O: Spelled>(
@@ -88,23 +67,22 @@ fn fill<O: Spelled>(
     shape: Shape,
     mut reader: Reader,
     side: Side,
-    labels: &mut [O::Label],
-    steps: &mut [u8],
+    memory: &mut Lent<'_, O::Label>,
 )
     requires within { Within reader.due }
     requires fits { reader.line + length reader.text.now < 2 ^ 63 }
-    requires labels { label_places ≤ length labels.old }
-    requires steps { step_places ≤ length steps.old }
-    ensures { IfOk (rows_left (O.Spelled.understood order.now) shape (left reader.entry.text.now reader.entry.line reader.entry.due)) (λ rs. (labels.new ≡ labels_stored side rs labels.old) × (steps.new ≡ steps_stored side rs steps.old)) }
+    requires labels { label_places ≤ length memory.old.labels.now }
+    requires steps { step_places ≤ length memory.old.steps.now }
+    ensures { IfOk (rows_left (O.Spelled.understood order.now) shape (left reader.entry.text.now reader.entry.line reader.entry.due)) (λ rs. Keeps memory.old (stored side rs (held memory.old)) memory.new) }
 {
     while let Ok(Some((at, row))) = reader.next_row(order, shape) {
         if at == side {
-            store(row, labels, steps);
+            memory.store(row);
         }
     }
 }
 
-/// What is said of a side that has no rows.
+/// What is said of a side that has no rows. A text that is read has rows of each of its sides.
 const NO_SIDE: SideRead = SideRead {
     form: Form::Machine,
     count: 0,
@@ -112,7 +90,7 @@ const NO_SIDE: SideRead = SideRead {
 
 /// Refuses a text that is too long, then short memory.
 fn check<P: Copy>(text: &[u8], first: P, is_short: bool) -> Result<(), Refused<P>>
-    ensures { unless_refused text.now first is_short (Ok tt) ≡ result }
+    ensures { result ≡ unless_refused text.now first is_short (Ok tt) }
 {
     if text.len() > TEXT_BOUND {
         return Err(Refused {
@@ -129,13 +107,6 @@ fn check<P: Copy>(text: &[u8], first: P, is_short: bool) -> Result<(), Refused<P
     Ok(())
 }
 
-/// Whether the memory is short for a side.
-fn is_short<L>(labels: &[L], steps: &[u8]) -> bool
-    ensures { result ≡ is_short_of labels.now steps.now }
-{
-    labels.len() < LABEL_PLACES || steps.len() < STEP_PLACES
-}
-
 /// Reads the text of a machine alone: its labels, and a step byte for each pair of states, 1 for a step. Answers how many
 /// states it has. A refusal leaves memory as it was.
 pub fn read_machine<O: Spelled>(
@@ -144,18 +115,21 @@ pub fn read_machine<O: Spelled>(
     labels: &mut [O::Label],
     steps: &mut [u8],
 ) -> Result<usize, Refused<usize>>
-    ensures { ReadsAlone (O.Spelled.understood order.now) text.now labels.old steps.old result labels.new steps.new }
+    ensures { ReadsAlone (O.Spelled.understood order.now) text.now (side_memory labels.old steps.old) result (side_memory labels.new steps.new) }
 {
-    check(text, 1, is_short(labels, steps))?;
-    let reader = Reader {
-        text,
-        line: 1,
-        due: Due::Header(Side::Right, 0),
-    };
+    let mut memory = Lent { labels, steps };
+    check(text, 1, memory.is_short())?;
+    let reader = Reader::new(text, 1, Side::Right);
     let (_, right) = headers(order, Shape::Alone, reader).map_err(Refused::line_alone)?;
-    fill(order, Shape::Alone, reader, Side::Right, labels, steps);
+    fill(order, Shape::Alone, reader, Side::Right, &mut memory);
     Ok(right.unwrap_or(NO_SIDE).count)
 }
+
+/// Where the order of a text stands.
+const FIRST: Place = Place {
+    side: Side::Order,
+    line: 1,
+};
 
 /// Reads a text of two machines: of each its labels, and of a machine with steps a byte for each pair of states, 1 for a
 /// step. A refusal leaves memory as it was.
@@ -168,41 +142,27 @@ pub fn read_two(
 ) -> Result<TwoRead, Refused<Place>>
     ensures { ReadsTwo text.now (side_memory left_labels.old left_steps.old) (side_memory right_labels.old right_steps.old) result (side_memory left_labels.new left_steps.new) (side_memory right_labels.new right_steps.new) }
 {
-    let first = Place {
-        side: Side::Order,
-        line: 1,
+    let mut left_memory = Lent {
+        labels: left_labels,
+        steps: left_steps,
+    };
+    let mut right_memory = Lent {
+        labels: right_labels,
+        steps: right_steps,
     };
     check(
         text,
-        first,
-        is_short(left_labels, left_steps) || is_short(right_labels, right_steps),
+        FIRST,
+        left_memory.is_short() || right_memory.is_short(),
     )?;
     let (order, rest) = first_line(text).map_err(|fault| Refused {
         fault,
-        place: Some(first),
+        place: Some(FIRST),
     })?;
-    let reader = Reader {
-        text: rest,
-        line: 2,
-        due: Due::Header(Side::Left, 0),
-    };
+    let reader = Reader::new(rest, 2, Side::Left);
     let (left, right) = headers(&order, Shape::Two, reader)?;
-    fill(
-        &order,
-        Shape::Two,
-        reader,
-        Side::Left,
-        left_labels,
-        left_steps,
-    );
-    fill(
-        &order,
-        Shape::Two,
-        reader,
-        Side::Right,
-        right_labels,
-        right_steps,
-    );
+    fill(&order, Shape::Two, reader, Side::Left, &mut left_memory);
+    fill(&order, Shape::Two, reader, Side::Right, &mut right_memory);
     Ok(TwoRead {
         order,
         left: left.unwrap_or(NO_SIDE),

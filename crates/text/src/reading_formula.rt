@@ -1,9 +1,9 @@
 //! A formula read from a text.
 ghost use Rattle.std.specs.Prelude.{◌≡◌, ◌-◌, ◌≤◌, length, take, Some, is_some, IsSome, IfSome, IfOk, IsTrue};
 ghost use Rattle.until.specs.Lines.{denoted, all_name_earlier};
-ghost use Rattle.text.specs.Lines.{pieces, inside};
+ghost use Rattle.text.specs.Lines.{newline, pieces, first_piece, first_word};
 ghost use Rattle.text.specs.Readings.{over};
-ghost use Rattle.text.specs.FormulaTexts.{is_formula_word, first_piece, deepest, line_checked, Writes, ReadsFormula, SaysOne};
+ghost use Rattle.text.specs.FormulaTexts.{is_formula_word, deepest, line_checked, Writes, ReadsFormula, SaysOne};
 ghost use Rattle.text.specs.FormulaParts.{line_with, shown, line_of, lines_of, ReadsItems, ReadsLine, ReadsText};
 
 use crate::cut::cut;
@@ -17,7 +17,7 @@ use arrayvec::ArrayVec;
 use until::Line;
 
 /// The deepest that the brackets of a line may be nested.
-pub const NESTING_BOUND: usize = 32;
+const NESTING_BOUND: usize = 32;
 
 /// Whether formulas begin with the word.
 fn is_formula_word(word: &[u8]) -> bool
@@ -27,8 +27,8 @@ fn is_formula_word(word: &[u8]) -> bool
 }
 
 /// Whether the first word between the first byte and the last is one of formulas.
-fn has_formula_word(line: &[u8]) -> bool
-    ensures { result ≡ is_formula_word (first_piece (pieces 32 (inside line.now))) }
+pub(crate) fn has_formula_word(line: &[u8]) -> bool
+    ensures { result ≡ is_formula_word (first_word line.now) }
 {
     match line {
         [_, inside @ .., _] => is_formula_word(cut(inside, b' ').0),
@@ -129,7 +129,7 @@ pub fn read_formula<O: Spelled>(
     ensures read { ReadsFormula (O.understood order.now) text.now lines.old result lines.new }
 
     // The last line denotes the formula that the text writes, and evaluating the lines is not refused for their numbers.
-    ensures denotes { IfOk result (λ k. Writes (O.understood order.now) (first_piece (pieces 10 text.now))
+    ensures denotes { IfOk result (λ k. Writes (O.understood order.now) (first_piece (pieces newline text.now))
         (Some (denoted (take k lines.new) (k - 1)))) }
     ensures earlier { IfOk result (λ k. IsTrue (all_name_earlier 0 (take k lines.new))) }
 {

@@ -11,21 +11,25 @@ pub const TEXT_STATES: usize = 64;
 
 /// What a text holds: two machines after an order, or a machine alone.
 #[derive(Clone, Copy, PartialEq, Eq, Debug)]
-pub enum Shape {
+pub(crate) enum Shape {
+    /// The line of an order, and a left and a right.
     Two,
+    /// The lines of a machine, which is read as a right.
     Alone,
 }
 
 /// Whether a side is a machine with steps or a trace.
 #[derive(Clone, Copy, PartialEq, Eq, Debug)]
 pub enum Form {
+    /// Its steps are lines of the text.
     Machine,
+    /// A step leads from each state to the next, and no line says so.
     Trace,
 }
 
 /// What a line says.
 #[derive(Clone, Copy, PartialEq, Eq, Debug)]
-pub enum Row<L> {
+pub(crate) enum Row<L> {
     /// A machine or a trace of so many states begins.
     Header(Form, usize),
     /// The label of a state.
@@ -36,16 +40,16 @@ pub enum Row<L> {
 
 /// A side that has begun.
 #[derive(Clone, Copy, PartialEq, Eq, Debug)]
-pub struct Part {
-    pub side: Side,
-    pub form: Form,
+pub(crate) struct Part {
+    pub(crate) side: Side,
+    pub(crate) form: Form,
     /// How many states it has.
-    pub count: usize,
+    pub(crate) count: usize,
 }
 
 /// What may come next.
 #[derive(Clone, Copy, PartialEq, Eq, Debug)]
-pub enum Due {
+pub(crate) enum Due {
     /// The header of a side, after so many states of sides before it.
     Header(Side, usize),
     /// The label of this state.

@@ -4,12 +4,12 @@ ghost use Rattle.text.specs.Statements.{ReadIsWritten, WrittenIsRead, SameText, 
 
 use crate::label::Spelled;
 
-/// A text that is read is the text of the machine that it says.
+/// A text that is read is the one that `write_machine` writes for the machine that it says.
 pub fn text_is_of_its_machine<O: Spelled>(order: &O)
     ensures { ReadIsWritten (O.Spelled.spelled order.now) (O.Spelled.understood order.now) }
 {}
 
-/// The text of a machine says that machine.
+/// The text that `write_machine` writes for a machine says that machine.
 pub fn machine_is_read_from_its_text<O: Spelled>(order: &O)
     ensures { WrittenIsRead (O.Spelled.spelled order.now) (O.Spelled.understood order.now) }
 {}

@@ -4,7 +4,7 @@ ghost use Rattle.text.specs.Words.{letters_of, word_of};
 
 /// A word that a line of some text begins with.
 #[derive(Clone, Copy, PartialEq, Eq, Debug)]
-pub enum Word {
+pub(crate) enum Word {
     Flags,
     Band,
     Turned,
@@ -30,7 +30,7 @@ impl Word {
     ];
 
     /// How it is written.
-    pub fn letters(self) -> &'static [u8]
+    pub(crate) fn letters(self) -> &'static [u8]
         ensures { result.now ≡ letters_of self }
     {
         match self {
@@ -47,7 +47,7 @@ impl Word {
     }
 
     /// The word that the bytes are, if any.
-    pub fn of(bytes: &[u8]) -> Option<Word>
+    pub(crate) fn of(bytes: &[u8]) -> Option<Word>
         ensures { result ≡ word_of bytes.now }
     {
         Word::ALL

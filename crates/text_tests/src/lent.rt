@@ -1,7 +1,8 @@
 //! Memory lent for reading, for the examples.
 use model::{FlagSet, Flags, Span};
-use text::reading::{LABEL_PLACES, STEP_PLACES, TwoRead, read_machine, read_two};
-use text::{Place, Refused, Side, Spelled};
+use text::{
+    LABEL_PLACES, Place, Refused, STEP_PLACES, Side, Spelled, TwoRead, read_machine, read_two,
+};
 
 /// A label of a text of two machines.
 pub(crate) type Pair = (FlagSet, Span);

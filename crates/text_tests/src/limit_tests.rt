@@ -4,8 +4,9 @@ use model::{FlagSet, Flags};
 use std::alloc::{AllocError, Global};
 use std::fmt::Write;
 use std::test::Fail;
-use text::reading::{SideRead, TwoRead, read_machine, read_two};
-use text::{Base, Fault, Form, Place, Refused, Side, TextOrder};
+use text::{
+    Base, Fault, Form, Place, Refused, Side, SideRead, TextOrder, TwoRead, read_machine, read_two,
+};
 
 const HEADED: &str = "(flags)\n(machine 1)\n";
 

@@ -1,6 +1,5 @@
-use Rattle.std.proofs.Common.{◌≡◌, false, Some, Ok, ok_or, ap, sym, ◌∙◌, arith}
+use Rattle.std.proofs.Common.{◌≡◌, false, Some, sym, ◌∙◌, arith}
 use Rattle.std.proofs.lemmas.Grind.{common_steps}
-use Rattle.text.specs.declared.fault.Fault.TheVariants.{WrongItems}
 use Rattle.text.specs.Writings.{all_spelled, is_miscounted}
 use Rattle.text.proofs.Written.{text_length, not_written, written_whole}
 use Rattle.text.proofs.writing.write_machine.Goals as goal
@@ -19,5 +18,4 @@ returns g c =
     let spelled = g.O.Spelled.spelled c.args.order.now in
     let sized : text_length spelled m (all_spelled spelled m.labels) ≡ Some c.in_ok-size.size = sym c.lay_machine.ensures.answer ∙ c.in_ok-size.ensures.ok_part in
     let counted : is_miscounted m ≡ false = grind (arith, common_steps) in
-    let answer : c.ok_or-2.result ≡ Ok c.in_ok-size.size = c.ok_or-2.ensures.value ∙ ap (λ o. ok_or o WrongItems) (c.lay_machine-2.ensures.answer ∙ sized) in
-    rw answer (written_whole spelled m c.args.out.now c.lay_machine-2.new.out c.in_ok-size.size sized counted c.if-out-size.false c.lay_machine-2.ensures.memory)
+    written_whole spelled m c.args.out.now c.lay_machine-2.new.out c.in_ok-size.size sized counted c.if-out-size.false c.lay_machine-2.ensures.memory
