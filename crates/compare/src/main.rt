@@ -2,26 +2,10 @@
 //! refused.
 #![tactic(auto)]
 
-use report::compare;
-use std::io::Read;
+use report::{compare, read_input};
 use std::process::ExitCode;
-use text::reading::TEXT_BOUND;
-
-/// One byte more than the longest text shows that a text is too long.
-const READ_BOUND: u64 = TEXT_BOUND as u64 + 1;
-
-fn run<R: Input + Print + AllocGlobal>(rt: &R) -> anyhow::Result<ExitCode> {
-    let mut text = Vec::new(rt.alloc());
-    rt.reader().take(READ_BOUND).read_to_end(&mut text)?;
-    let report = compare(rt.alloc(), &text)?;
-    rt.write_all(report.lines.as_bytes())?;
-    Ok(if report.is_refusal {
-        ExitCode::FAILURE
-    } else {
-        ExitCode::SUCCESS
-    })
-}
 
 fn main(rt: HostRuntime) -> anyhow::Result<ExitCode> {
-    run(&rt)
+    let text = read_input(&rt)?;
+    compare(rt.alloc(), &text)?.print(&rt)
 }

@@ -1,6 +1,6 @@
 pub mod Settles
-pub mod Counts
-pub mod SaidCounts
 pub mod Sides
 pub mod Tells
 pub mod TextTells
+pub mod SaysWhere
+pub mod AskedRead

@@ -15,10 +15,10 @@ use Rattle.text.specs.declared.row.Form.TheVariants.{Machine, Trace}
 use Rattle.text.specs.TextOrderLaws.{text_lawful}
 use Rattle.text.specs.Readings.{labels_on, places_on, side_said, grid, Said}
 use Rattle.text.proofs.Grids.{grid_fits}
-use Rattle.report.specs.Comparisons.{machine_of, machine_on, setting_said, read_of}
+use Rattle.text.specs.Statements.{machine_of, machine_on}
+use Rattle.report.specs.Comparisons.{setting_said, read_of}
 use Rattle.report.specs.TextTells.{TextTells}
-use Rattle.report.proofs.Counts.{Counted}
-use Rattle.report.proofs.SaidCounts.{said_counted}
+use Rattle.text.proofs.SidesCounted.{Counted, two_counted}
 use Rattle.report.proofs.Sides.{said_of}
 use Rattle.report.proofs.Tells.{report_tells}
 
@@ -58,5 +58,5 @@ pub read_tells : (text : List ℕ) → IfOk (read_of text) TextTells
 read_tells text = by (read_of text) refl
   where
     by : (o : Result Said (Refused Place)) → read_of text ≡ o → IfOk o TextTells
-    by (Ok said) e = text_tells said (said_counted text said (said_of text said e))
+    by (Ok said) e = text_tells said (two_counted text said (said_of text said e))
     by (Err e) _ = tt

@@ -1,7 +1,10 @@
 pub mod Printed
+pub mod Refused
 pub mod Settled
 pub mod Reports
 pub mod Comparisons
 pub mod Sides
 pub mod Tells
 pub mod TextTells
+pub mod Asked
+pub mod AskedRead

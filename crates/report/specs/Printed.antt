@@ -1,14 +1,12 @@
 -- The lines of a report, byte by byte. Assumes nothing.
-use Rattle.std.specs.Prelude.{ℕ, Bool, List, [], ◌++◌, Option, Some, None, codes, decimal}
+use Rattle.std.specs.Prelude.{ℕ, zero, suc, Bool, true, false, not, List, [], ◌++◌, codes, decimal, ◌==◌, slice_index}
 use Rattle.strikes.specs.declared.strike.Ground.{Ground}
 use Rattle.strikes.specs.declared.strike.Ground.TheVariants.{ByLabel, ByStep}
 use Rattle.strikes.specs.declared.strike.Strike.{Strike}
-use Rattle.text.specs.declared.fault.Side.{Side}
-use Rattle.text.specs.declared.fault.Side.TheVariants.{Order, Left, Right}
-use Rattle.text.specs.declared.fault.Place.{Place}
-use Rattle.text.specs.declared.fault.Refused.{Refused}
-use Rattle.text.specs.Faults.{number_of}
-use Rattle.text.specs.Printed.{yes_or_no}
+
+abbrev pub yes_or_no : Bool → List ℕ
+yes_or_no true = codes "yes"
+yes_or_no false = codes "no"
 
 -- (compared 3), and its newline
 abbrev pub compared_line : ℕ → List ℕ
@@ -33,16 +31,11 @@ abbrev pub start_line : ℕ → ℕ → Bool → List ℕ
 start_line s t is_below =
     codes "(start " ++ (decimal s ++ (codes " " ++ (decimal t ++ (codes " " ++ (yes_or_no is_below ++ codes ")\n")))))
 
-abbrev pub side_word : Side → List ℕ
-side_word Order = codes "order"
-side_word Left = codes "left"
-side_word Right = codes "right"
+-- (holds 3 yes), and its newline
+abbrev pub holds_line : ℕ → Bool → List ℕ
+holds_line s there = codes "(holds " ++ (decimal s ++ (codes " " ++ (yes_or_no there ++ codes ")\n")))
 
--- A side and a line, each after a space, or nothing
-abbrev pub place_words : Option Place → List ℕ
-place_words None = []
-place_words (Some p) = codes " " ++ (side_word p.side ++ (codes " " ++ decimal p.line))
-
--- (refused 4 left 3), or (refused 6), and its newline
-abbrev pub refused_line : Refused Place → List ℕ
-refused_line r = codes "(refused " ++ (decimal (number_of r.fault) ++ (place_words r.place ++ codes ")\n"))
+-- A line for each of the first n states, with yes where the byte of the state is not zero.
+abbrev pub holds_lines : List ℕ → ℕ → List ℕ
+holds_lines row zero = []
+holds_lines row (suc s) = holds_lines row s ++ holds_line s (not (slice_index row s == 0))

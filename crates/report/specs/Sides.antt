@@ -9,8 +9,8 @@ use Rattle.text.specs.declared.row.Form.{Form}
 use Rattle.text.specs.declared.row.Form.TheVariants.{Machine}
 use Rattle.text.specs.Rows.{text_states, label_places, step_places}
 use Rattle.text.specs.Readings.{Said}
-use Rattle.report.specs.declared.comparison.Places.{Places}
-use Rattle.report.specs.Comparisons.{machine_of, machine_on}
+use Rattle.report.specs.declared.places.Places.{Places}
+use Rattle.text.specs.Statements.{machine_of, machine_on}
 
 -- There are as many places as a side may need.
 abbrev pub HasRoom : Places → Type 0

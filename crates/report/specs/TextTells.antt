@@ -4,7 +4,8 @@ use Rattle.model.specs.Machines.{states}
 use Rattle.text.specs.declared.fault.Side.TheVariants.{Left}
 use Rattle.text.specs.Readings.{Said}
 use Rattle.sheet.specs.Verdicts.{size}
-use Rattle.report.specs.Comparisons.{machine_on, setting_said}
+use Rattle.text.specs.Statements.{machine_on}
+use Rattle.report.specs.Comparisons.{setting_said}
 use Rattle.report.specs.Tells.{ReportTells}
 
 -- The left has a first state, the right's first state is one, and what is printed of states is so.

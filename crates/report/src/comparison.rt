@@ -1,8 +1,8 @@
 //! Two machines that a text says, compared.
 ghost use Rattle.std.specs.Prelude.{◌≡◌, ◌+◌, ◌<◌, ◌≤◌, Ok, Err, IfOk, MatchResult, is_err, string_bytes};
-ghost use Rattle.model.specs.Machines.{states, state_bound, tabled, traced, beside_meaning};
+ghost use Rattle.model.specs.Machines.{states, state_bound, beside_meaning};
 ghost use Rattle.sheet.specs.Verdicts.{setting};
-ghost use Rattle.text.specs.declared.row.Form.TheVariants.{Machine as MachineForm, Trace as TraceForm};
+ghost use Rattle.text.specs.declared.row.Form.TheVariants.{Machine as MachineForm};
 ghost use Rattle.text.specs.Rows.{text_states};
 ghost use Rattle.text.specs.Readings.{Said};
 ghost use Rattle.text.specs.OrderLines.{text_at_most};
@@ -11,55 +11,14 @@ ghost use Rattle.report.specs.Comparisons.{read_of, printed};
 ghost use Rattle.report.specs.TextTells.{TextTells};
 ghost use Rattle.report.specs.Sides.{HasRoom, first_states, AreSides};
 
-use crate::lines::RefusedLine;
+use crate::places::Places;
+use crate::refused::Spot;
+use crate::report::Report;
 use crate::writing::report_on;
-use model::{Beside, FlagSet, Machine, Order, Span, Table, Trace};
+use model::{Beside, Machine, Order};
 use sheet::Setting;
 use std::alloc::{AllocError, Global};
-use text::reading::{LABEL_PLACES, STEP_PLACES, read_two};
-use text::{Form, Place, Refused, TwoRead};
-
-/// A label of a text.
-type Label = (FlagSet, Span);
-
-/// What a place for a label holds before a text is read.
-const BLANK: Label = (FlagSet { bits: 0 }, Span { low: 0, high: 0 });
-
-/// Places for the labels and the step bytes of a side.
-#[derive(Drop)]
-struct Places {
-    labels: Vec<Label>,
-    steps: Vec<u8>,
-}
-
-impl Places {
-    fn new(heap: Global) -> Result<Places, AllocError>
-        ensures { IfOk result HasRoom }
-    {
-        Ok(Places {
-            labels: vec![in heap; BLANK; LABEL_PLACES]?,
-            steps: vec![in heap; 0u8; STEP_PLACES]?,
-        })
-    }
-
-    /// The machine of the first `n` states.
-    fn table(&self, n: usize) -> Table<'_, Label>
-        requires states { n ≤ text_states }
-        requires room { HasRoom self.now }
-        ensures { tabled result.labels.now result.steps.now ≡ first_states MachineForm n self.now }
-    {
-        Table::new(&self.labels[..n], &self.steps[..n * n])
-    }
-
-    /// The trace of the first `n` states.
-    fn trace(&self, n: usize) -> Trace<'_, Label>
-        requires states { n ≤ text_states }
-        requires room { HasRoom self.now }
-        ensures { traced result.labels.now ≡ first_states TraceForm n self.now }
-    {
-        Trace::new(&self.labels[..n])
-    }
-}
+use text::{Form, Place, Refused, TwoRead, read_two};
 
 /// The report on two machines.
 fn report_beside<
@@ -120,14 +79,6 @@ fn read(text: &[u8], left: &mut Places, right: &mut Places) -> Result<TwoRead, R
     )
 }
 
-/// What is printed of a text.
-#[derive(Drop)]
-pub struct Report {
-    pub lines: String,
-    /// The text was refused, and the lines are one that says so.
-    pub is_refusal: bool,
-}
-
 /// Compares the two machines of a text. Only memory may run out.
 #[tactic(auto, using(crate::proofs::TextTells::read_tells))]
 pub fn compare(heap: Global, text: &[u8]) -> Result<Report, AllocError>
@@ -142,9 +93,12 @@ pub fn compare(heap: Global, text: &[u8]) -> Result<Report, AllocError>
             lines: report_read(heap, &two, &left, &right)?,
             is_refusal: false,
         }),
-        Err(refused) => Ok(Report {
-            lines: RefusedLine { refused }.to_string(heap)?,
-            is_refusal: true,
-        }),
+        Err(refused) => Report::refusal(
+            heap,
+            Refused {
+                fault: refused.fault,
+                place: refused.place.map(Spot::from),
+            },
+        ),
     }
 }

@@ -1,10 +1,19 @@
-//! What is printed of two machines given as a text.
+//! What programs print of texts: two machines compared, and a formula evaluated at the states of one.
 #![tactic(auto)]
 
 pub mod comparison;
+pub mod holding;
 pub mod lines;
+mod places;
+mod program;
+pub mod refused;
+pub mod report;
 mod settled;
 mod writing;
 
-pub use comparison::{Report, compare};
-pub use lines::{ClassLine, ComparedLine, RefusedLine, StartLine, StrikeLine};
+pub use comparison::compare;
+pub use holding::holds;
+pub use lines::{ClassLine, ComparedLine, HoldsLine, StartLine, StrikeLine};
+pub use program::read_input;
+pub use refused::{RefusedLine, Section, Spot};
+pub use report::Report;

@@ -1,11 +1,16 @@
 //! The lines of a report.
 ghost use Rattle.std.specs.Prelude.{◌≡◌, Some};
-ghost use Rattle.report.specs.Printed.{compared_line, class_line, ground_words, strike_line, start_line, side_word, place_words, refused_line};
+ghost use Rattle.report.specs.Printed.{yes_or_no, compared_line, class_line, ground_words, strike_line, start_line, holds_line};
 
 use std::fmt;
 use strikes::{Ground, Strike};
-use text::print::yes_or_no;
-use text::{Place, Refused, Side};
+
+/// A word of the printed lines; the library prints `true` and `false`.
+fn yes_or_no(yes: bool) -> &'static str
+    ensures { result.now ≡ yes_or_no yes }
+{
+    if yes { "yes" } else { "no" }
+}
 
 /// How many states were compared.
 #[derive(Clone, Copy, PartialEq, Eq, Debug)]
@@ -90,47 +95,19 @@ impl fmt::Display for StartLine {
     }
 }
 
-/// Why a text was refused, and where.
+/// Whether a formula holds at a state.
 #[derive(Clone, Copy, PartialEq, Eq, Debug)]
-pub struct RefusedLine {
-    pub refused: Refused<Place>,
+pub struct HoldsLine {
+    pub state: usize,
+    pub holds: bool,
 }
 
-fn side_word(side: Side) -> &'static str
-    ensures { result.now ≡ side_word side }
-{
-    match side {
-        Side::Order => "order",
-        Side::Left => "left",
-        Side::Right => "right",
-    }
-}
-
-/// A side and a line, where there is a place.
-#[derive(Clone, Copy)]
-struct PlaceWords(Option<Place>);
-
-impl fmt::Display for PlaceWords {
-    ghost output = { λ words. Some (place_words words.0) };
+impl fmt::Display for HoldsLine {
+    ghost output = { λ line. Some (holds_line line.state line.holds) };
 
     fn fmt<W: fmt::Write>(&self, f: &mut fmt::Formatter<W>) -> fmt::Result {
-        match self.0 {
-            None => Ok(()),
-            Some(place) => {
-                let side = side_word(place.side);
-                let line = place.line;
-                write!(f, " {side} {line}")
-            }
-        }
-    }
-}
-
-impl fmt::Display for RefusedLine {
-    ghost output = { λ line. Some (refused_line line.refused) };
-
-    fn fmt<W: fmt::Write>(&self, f: &mut fmt::Formatter<W>) -> fmt::Result {
-        let number = u8::from(self.refused.fault);
-        let place = PlaceWords(self.refused.place);
-        writeln!(f, "(refused {number}{place})")
+        let state = self.state;
+        let word = yes_or_no(self.holds);
+        writeln!(f, "(holds {state} {word})")
     }
 }

@@ -1,6 +1,8 @@
 use Rattle.std.proofs.Common.{◌≡◌, false, arith, sym, subst}
 use Rattle.std.proofs.lemmas.Grind.{common_steps}
 use Rattle.std.proofs.lemmas.List.{with_items_is}
+use Rattle.model.specs.declared.flags.FlagSet.{FlagSet}
+use Rattle.model.specs.declared.band.Span.{Span}
 use Rattle.text.specs.Readings.{SideMemory, side_memory, is_short, ReadsTwo}
 use Rattle.report.proofs.Sides.{sides_read}
 use Rattle.report.proofs.comparison.read.Goals as goal
@@ -18,6 +20,6 @@ returns-clause-says c =
     let b = with_items_is before.steps new.left_steps (grind (arith, common_steps)) in
     let d = with_items_is after.labels new.right_labels (grind (arith, common_steps)) in
     let e = with_items_is after.steps new.right_steps (grind (arith, common_steps)) in
-    let P : SideMemory × SideMemory → Type 0 = λ p. ReadsTwo c.args.text.now left right c.read_two.result p.0 p.1 in
+    let P : SideMemory (FlagSet × Span) × SideMemory (FlagSet × Span) → Type 0 = λ p. ReadsTwo c.args.text.now left right c.read_two.result p.0 p.1 in
     sides_read c.args.text.now left right _ _ left_long right_long c.read_two.result
     (subst P (λ i. (side_memory (sym a i) (sym b i), side_memory (sym d i) (sym e i))) c.read_two.ensures)
