@@ -144,7 +144,7 @@ module _ {L : Type 0} (on : Setting L) where
     entailed_stands : (j s t u : ℕ) → j ≤ length replies → (pages j).sheet.settled ≡ true → Step on.machine s u → t < size on → Entails on.at_most on.machine s t → T (stands (size on) (pages j).pairs s t)
     entailed_stands j s t u low z step ht all = (stands_entails on bounded laws (pages j).sheet.settled (held (pages j)) (came_at j low).genuine z s t step.from_state ht).1 all
 
-    running_law : Law on (pages (length replies)) requests replies
+    pub running_law : Law on (pages (length replies)) requests replies
     running_law = record {
       classes = λ i j s t c d x y. same_class on s t c d ((kept_at i (Class s) (Ok (ClassIs c)) x).says c refl) ((kept_at j (Class t) (Ok (ClassIs d)) y).says d refl);
       below = λ i s t b x. ((kept_at i (Below s t) (Ok (IsBelow b)) x).says b refl).0;

@@ -1,11 +1,11 @@
--- Relations between one state of a lent memory and a later one. Assumes nothing.
-use Rattle.std.specs.Prelude.{◌≡◌, refl}
+-- Relations between one state of a lent memory and a later one, with the places from i to before j written since. Assumes nothing.
+use Rattle.std.specs.Prelude.{◌≡◌, ℕ, refl}
 use Rattle.std.proofs.Common.{◌∙◌}
 
-pub record Lasting {S : Type 0} (same : S → S → Type 0) : Type 0 where
-  pub at_once : (a : S) → same a a
-  pub then : (a b c : S) → same a b → same b c → same a c
+pub record Lasting {S : Type 0} (filled : ℕ → ℕ → S → S → Type 0) : Type 0 where
+  pub at_once : (i : ℕ) (a : S) → filled i i a a
+  pub then : (i j k : ℕ) (a b c : S) → filled i j a b → filled j k b c → filled i k a c
 
--- What keeps a name is the same.
-pub by_name : {S N : Type 0} (name : S → N) → Lasting (λ a b. name b ≡ name a)
-by_name name = record { at_once = λ a. refl; then = λ a b c p q. q ∙ p }
+-- Where nothing but a name is kept.
+pub by_name : {S N : Type 0} (name : S → N) → Lasting (λ _ _ a b. name b ≡ name a)
+by_name name = record { at_once = λ i a. refl; then = λ i j k a b c p q. q ∙ p }

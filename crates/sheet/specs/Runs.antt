@@ -1,5 +1,5 @@
 -- What a whole run answers. Assumes nothing.
-use Rattle.std.specs.Prelude.{◌≡◌, ℕ, zero, suc, Bool, List, [], ◌∷◌, ◌++◌, length, take, drop, replicate, Result, nat_lt}
+use Rattle.std.specs.Prelude.{◌≡◌, ℕ, zero, suc, Bool, List, [], ◌∷◌, ◌++◌, length, take, drop, replicate, Ok, Err, Result, nat_lt}
 use Rattle.model.specs.declared.refusal.Refusal.{Refusal}
 use Rattle.model.specs.Machines.{state_bound}
 use Rattle.model.specs.Refusals.{Checked, cause}
@@ -39,3 +39,8 @@ abbrev pub Runs : {L : Type 0} → Setting L → List ℕ → List Strike → Li
 Runs on pairs records requests replies r pairs_after records_after replies_after =
     Checked (cause (run_tests (size on) pairs records requests replies)) ((pairs_after ≡ pairs) × (records_after ≡ records) × (replies_after ≡ replies))
     (λ sheet. Ran on requests replies replies_after (begun_page (size on) pairs records) (page sheet pairs_after records_after)) r
+
+-- How many strikes there are after a run: none where it is refused.
+abbrev pub strikes_after : Result Sheet Refusal → ℕ
+strikes_after (Ok sheet) = sheet.strikes
+strikes_after (Err e) = 0

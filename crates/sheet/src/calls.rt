@@ -58,7 +58,7 @@ impl Sheet {
     ) -> Result<Verdict, Refusal>
         ensures answer { Tries (setting (O.Order.relation on.now.order.now) (M.Machine.meaning on.now.machine.now)) (page self.old pairs.old (S.StrikeMemory.records strikes.old)) s t result (page self.new pairs.new (S.StrikeMemory.records strikes.new)) }
         ensures promise { Promise (setting (O.Order.relation on.now.order.now) (M.Machine.meaning on.now.machine.now)) (page self.old pairs.old (S.StrikeMemory.records strikes.old)) (Try s t) (reply Tried result) (page self.new pairs.new (S.StrikeMemory.records strikes.new)) }
-        ensures same { S.StrikeMemory.same strikes.old strikes.new }
+        ensures filled { S.StrikeMemory.filled self.old.strikes self.new.strikes strikes.old strikes.new }
     {
         self.check_page(on.machine, pairs, strikes, &[s, t])?;
         let verdict = on.attempt(pairs, strikes, self.strikes, s, t);
@@ -76,7 +76,7 @@ impl Sheet {
     ) -> Result<usize, Refusal>
         ensures answer { Sweeps (setting (O.Order.relation on.now.order.now) (M.Machine.meaning on.now.machine.now)) (page self.old pairs.old (S.StrikeMemory.records strikes.old)) s result (page self.new pairs.new (S.StrikeMemory.records strikes.new)) }
         ensures promise { Promise (setting (O.Order.relation on.now.order.now) (M.Machine.meaning on.now.machine.now)) (page self.old pairs.old (S.StrikeMemory.records strikes.old)) (Sweep s) (reply Swept result) (page self.new pairs.new (S.StrikeMemory.records strikes.new)) }
-        ensures same { S.StrikeMemory.same strikes.old strikes.new }
+        ensures filled { S.StrikeMemory.filled self.old.strikes self.new.strikes strikes.old strikes.new }
     {
         self.check_page(on.machine, pairs, strikes, &[s])?;
         let made = on.sweep_row(pairs, strikes, self.strikes, s);
@@ -95,7 +95,7 @@ impl Sheet {
     ) -> Result<(usize, usize), Refusal>
         ensures answer { Settles (setting (O.Order.relation on.now.order.now) (M.Machine.meaning on.now.machine.now)) (page self.old pairs.old (S.StrikeMemory.records strikes.old)) result (page self.new pairs.new (S.StrikeMemory.records strikes.new)) }
         ensures promise { Promise (setting (O.Order.relation on.now.order.now) (M.Machine.meaning on.now.machine.now)) (page self.old pairs.old (S.StrikeMemory.records strikes.old)) Settle (reply (λ a. Settled a.0 a.1) result) (page self.new pairs.new (S.StrikeMemory.records strikes.new)) }
-        ensures same { S.StrikeMemory.same strikes.old strikes.new }
+        ensures filled { S.StrikeMemory.filled self.old.strikes self.new.strikes strikes.old strikes.new }
     {
         self.check_page(on.machine, pairs, strikes, &[])?;
         let (made, passes) = on.strike_all(pairs, strikes, self.strikes);

@@ -1,5 +1,5 @@
 //! Memory for strike records, lent in whatever form the lender keeps it.
-ghost use Rattle.std.specs.Prelude.{◌≡◌, List, length, slice_set};
+ghost use Rattle.std.specs.Prelude.{◌≡◌, ℕ, ◌+◌, List, length, slice_set};
 ghost use Rattle.std.specs.List.{slice_get};
 ghost use Rattle.strikes.specs.declared.strike.Strike.{Strike as StrikeRecord};
 ghost use Rattle.sheet.specs.Lasting.{Lasting, by_name};
@@ -11,11 +11,12 @@ pub trait StrikeMemory {
     /// What the places hold.
     ghost records: { Self → List StrikeRecord };
 
-    /// The one is a later state of the other's lent memory.
-    ghost same: { Self → Self → Type 0 };
+    /// The one is a later state of the other's lent memory: the places from the first number on, to before the second, were
+    /// written since, each once and in turn, and no others.
+    ghost filled: { ℕ → ℕ → Self → Self → Type 0 };
 
-    /// The same at once, and from state to state.
-    ghost lasting: { Lasting same };
+    /// No places at once, and more of them from state to state.
+    ghost lasting: { Lasting filled };
 
     /// How many places there are.
     fn room(&self) -> usize
@@ -28,7 +29,7 @@ pub trait StrikeMemory {
     /// Writes place `k`, and nothing where there is no such place.
     fn write(&mut self, k: usize, strike: Strike)
         ensures written { records self.new ≡ slice_set (records self.old) k strike }
-        ensures same { same self.old self.new };
+        ensures filled { filled k (k + 1) self.old self.new };
 }
 
 /// A lent slice of records.
@@ -40,7 +41,7 @@ pub struct StrikeSlice<'a> {
 impl<'a> StrikeMemory for StrikeSlice<'a> {
     ghost records = { λ s. s.items.now };
 
-    ghost same = { λ a b. b.items.ghost_name ≡ a.items.ghost_name };
+    ghost filled = { λ _ _ a b. b.items.ghost_name ≡ a.items.ghost_name };
 
     ghost lasting = { by_name (λ a. a.items.ghost_name) };
 
@@ -58,7 +59,7 @@ impl<'a> StrikeMemory for StrikeSlice<'a> {
 
     fn write(&mut self, k: usize, strike: Strike)
         ensures written { self.new.items.now ≡ slice_set self.old.items.now k strike }
-        ensures same { self.new.items.ghost_name ≡ self.old.items.ghost_name }
+        ensures filled { self.new.items.ghost_name ≡ self.old.items.ghost_name }
     {
         // By index, since no contract says what a place that `get_mut` lent holds once it is written.
         if k < self.items.len() {

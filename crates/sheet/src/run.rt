@@ -4,7 +4,7 @@ ghost use Rattle.sheet.specs.Verdicts.{setting};
 ghost use Rattle.sheet.specs.Pages.{page};
 ghost use Rattle.sheet.specs.Replies.{Walks, RepliesInto};
 ghost use Rattle.sheet.specs.Law.{Law};
-ghost use Rattle.sheet.specs.Runs.{Runs, blank_walk};
+ghost use Rattle.sheet.specs.Runs.{Runs, blank_walk, strikes_after};
 
 use crate::memory::StrikeMemory;
 use crate::request::{Reply, Request};
@@ -39,7 +39,7 @@ impl Sheet {
         request: Request,
     ) -> Result<Reply, Refusal>
         ensures answer { RepliesInto (setting (O.Order.relation on.now.order.now) (M.Machine.meaning on.now.machine.now)) blank_walk (page self.old pairs.old (S.StrikeMemory.records strikes.old)) request result (page self.new pairs.new (S.StrikeMemory.records strikes.new)) }
-        ensures same { S.StrikeMemory.same strikes.old strikes.new }
+        ensures filled { S.StrikeMemory.filled self.old.strikes self.new.strikes strikes.old strikes.new }
     {
         match request {
             Request::Try(s, t) => { self.try_pair(on, pairs, strikes, s, t).map(Reply::Tried) }
@@ -70,7 +70,7 @@ pub fn run_requests<M: Machine, O: Order<Label = M::Label>, S: StrikeMemory>(
 ) -> Result<Sheet, Refusal>
     ensures answer { Runs (setting (O.Order.relation on.now.order.now) (M.Machine.meaning on.now.machine.now)) pairs.old (S.StrikeMemory.records strikes.old) requests.now replies.old result pairs.new (S.StrikeMemory.records strikes.new) replies.new }
     ensures law { IfOk result (λ sheet. Law (setting (O.Order.relation on.now.order.now) (M.Machine.meaning on.now.machine.now)) (page sheet pairs.new (S.StrikeMemory.records strikes.new)) requests.now (take (length requests.now) replies.new)) }
-    ensures same { S.StrikeMemory.same strikes.old strikes.new }
+    ensures filled { S.StrikeMemory.filled 0 (strikes_after result) strikes.old strikes.new }
 {
     if on.machine.count() == 0 {
         return Err(Refusal::NoStates);

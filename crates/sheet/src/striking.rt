@@ -31,7 +31,7 @@ impl<'a, M: Machine, O: Order<Label = M::Label>> Setting<'a, M, O> {
         requires room { states (M.Machine.meaning self.now.machine.now) * states (M.Machine.meaning self.now.machine.now) ≤ length pairs.old }
         ensures verdict { result ≡ verdict_of (setting (O.Order.relation self.now.order.now) (M.Machine.meaning self.now.machine.now)) pairs.old s t }
         ensures after { held pairs.new (S.StrikeMemory.records strikes.new) (made + strikes_in result) ≡ tried (setting (O.Order.relation self.now.order.now) (M.Machine.meaning self.now.machine.now)) (held pairs.old (S.StrikeMemory.records strikes.old) made) s t }
-        ensures same { S.StrikeMemory.same strikes.old strikes.new }
+        ensures filled { S.StrikeMemory.filled made (made + strikes_in result) strikes.old strikes.new }
     {
         let n = self.machine.count();
         // The byte by its place in lent memory, where it is written below.
@@ -62,7 +62,7 @@ impl<'a, M: Machine, O: Order<Label = M::Label>> Setting<'a, M, O> {
         requires first { s < states (M.Machine.meaning self.now.machine.now) }
         requires ready { Ready (states (M.Machine.meaning self.now.machine.now)) (held pairs.old (S.StrikeMemory.records strikes.old) made) }
         ensures after { held pairs.new (S.StrikeMemory.records strikes.new) result ≡ swept (setting (O.Order.relation self.now.order.now) (M.Machine.meaning self.now.machine.now)) (held pairs.old (S.StrikeMemory.records strikes.old) made) s (states (M.Machine.meaning self.now.machine.now)) }
-        ensures same { S.StrikeMemory.same strikes.old strikes.new }
+        ensures filled { S.StrikeMemory.filled made result strikes.old strikes.new }
     {
         let mut done = made;
         for t in 0..self.machine.count() {
@@ -75,7 +75,7 @@ impl<'a, M: Machine, O: Order<Label = M::Label>> Setting<'a, M, O> {
     fn pass<S: StrikeMemory>(&self, pairs: &mut [u8], strikes: &mut S, made: usize) -> usize
         requires { Ready (states (M.Machine.meaning self.now.machine.now)) (held pairs.old (S.StrikeMemory.records strikes.old) made) }
         ensures after { held pairs.new (S.StrikeMemory.records strikes.new) result ≡ passed (setting (O.Order.relation self.now.order.now) (M.Machine.meaning self.now.machine.now)) (held pairs.old (S.StrikeMemory.records strikes.old) made) (states (M.Machine.meaning self.now.machine.now)) }
-        ensures same { S.StrikeMemory.same strikes.old strikes.new }
+        ensures filled { S.StrikeMemory.filled made result strikes.old strikes.new }
     {
         let mut done = made;
         for s in 0..self.machine.count() {
@@ -94,7 +94,7 @@ impl<'a, M: Machine, O: Order<Label = M::Label>> Setting<'a, M, O> {
     ) -> (usize, usize)
         requires { Ready (states (M.Machine.meaning self.now.machine.now)) (held pairs.old (S.StrikeMemory.records strikes.old) made) }
         ensures after { (held pairs.new (S.StrikeMemory.records strikes.new) result.0, result.1) ≡ settled (setting (O.Order.relation self.now.order.now) (M.Machine.meaning self.now.machine.now)) (held pairs.old (S.StrikeMemory.records strikes.old) made) }
-        ensures same { S.StrikeMemory.same strikes.old strikes.new }
+        ensures filled { S.StrikeMemory.filled made result.0 strikes.old strikes.new }
     {
         let mut done = made;
         let mut passes = 0;

@@ -4,7 +4,7 @@ use Rattle.std.proofs.lemmas.Bool.{and_parts, and_from, or_cases, or_left, or_ri
 use Rattle.std.proofs.lemmas.Bool.Decides.{Decides-below_or, nat_tests}
 use Rattle.model.specs.Machines.{Meaning, Bounded, states, Step}
 use Rattle.model.proofs.Tests.{holds_true, true_holds}
-use Rattle.until.specs.Walks.{Walk, stop, go}
+use Rattle.until.specs.Walks.{Walk, stop, go, steps, Shortest}
 use Rattle.until.specs.Decided.{some_below, walks_within, walks}
 
 some_decides : (p : ℕ → Bool) (n : ℕ) → Decides (some_below p n) ((i : ℕ) × (i < n) × (p i ≡ true))
@@ -86,16 +86,18 @@ module _ {L : Type 0} (m : Meaning L) (ok goal : ℕ → Bool) where
   within_goal zero t h = h
   within_goal (suc k) t h = or_left (goal t) (onward (within k) t) h
 
-  within_sound : Bounded m → (k t : ℕ) → within k t ≡ true → Walk (Step m) (λ u. T (ok u)) (λ u. T (goal u)) t
-  within_sound b zero t h = stop (true_holds (goal t) h)
+  -- what is found is a walk of so many steps at most
+  within_sound : Bounded m → (k t : ℕ) → within k t ≡ true → (w : Walk (Step m) (λ u. T (ok u)) (λ u. T (goal u)) t) × (steps w ≤ k)
+  within_sound b zero t h = (stop (true_holds (goal t) h), omega arith)
   within_sound b (suc k) t h =
       ⊎_elim
-      (λ g. stop (true_holds (goal t) g))
+      (λ g. (stop (true_holds (goal t) g), omega arith))
       (λ g.
       let p = and_parts (ok t) (some_below (λ u. m.step t u && within k u) (states m)) g in
       let w = (some_decides (λ u. m.step t u && within k u) (states m)).0 p.1 in
       let q = and_parts (m.step t w.0) (within k w.0) w.2 in
-      go (true_holds (ok t) p.0) (b.inside t w.0 (true_holds (m.step t w.0) q.0)) (within_sound b k w.0 q.1))
+      let rest = within_sound b k w.0 q.1 in
+      (go (true_holds (ok t) p.0) (b.inside t w.0 (true_holds (m.step t w.0) q.0)) rest.0, omega (arith, rest.1)))
       (or_cases (goal t) (onward (within k) t) h)
 
   walks_complete : {t : ℕ} → Walk (Step m) (λ u. T (ok u)) (λ u. T (goal u)) t → walks m ok goal t ≡ true
@@ -106,4 +108,7 @@ module _ {L : Type 0} (m : Meaning L) (ok goal : ℕ → Bool) where
       (and_from (ok t) _ (holds_true (ok t) p) ((some_decides (λ v. m.step t v && within (states m) v) (states m)).1 (u, e.to_state, there))))
 
   pub walks_decides : Bounded m → (t : ℕ) → Decides (walks m ok goal t) (Walk (Step m) (λ u. T (ok u)) (λ u. T (goal u)) t)
-  walks_decides b t = (within_sound b (states m) t, walks_complete)
+  walks_decides b t = (λ h. (within_sound b (states m) t h).0, walks_complete)
+
+  pub shortest_few : Bounded m → {t : ℕ} (w : Walk (Step m) (λ u. T (ok u)) (λ u. T (goal u)) t) → Shortest w → steps w ≤ states m
+  shortest_few b {t} w shortest = let short = within_sound b (states m) t (walks_complete w) in omega (arith, shortest short.0, short.1)

@@ -1,9 +1,10 @@
-use Rattle.std.proofs.Common.{refl, rules, arith}
+use Rattle.std.proofs.Common.{refl, subst, rules, arith}
 use Rattle.std.proofs.lemmas.Grind.{common_steps}
 use Rattle.std.proofs.lemmas.Option.{slice_get-get_or}
 use Rattle.model.proofs.Checks.{answered_at}
 use Rattle.sheet.specs.Verdicts.{setting}
 use Rattle.sheet.specs.Pages.{page}
+use Rattle.sheet.proofs.Beginning.{begun_bare}
 use Rattle.sheet.proofs.Running.{in_turn_none, in_turn_next, run_answers, ran_law}
 use Rattle.sheet.proofs.run.run_requests.Goals as goal
 
@@ -11,7 +12,11 @@ pub loop-k-init : goal.loop-k-init
 loop-k-init g c =
     let on = setting (g.O.Order.relation c.args.on.now.order.now) (g.M.Machine.meaning c.args.on.now.machine.now) in
     let begun = page c.in_ok-sheet.sheet c.begin.new.pairs (g.S.StrikeMemory.records c.args.strikes.now) in
-    ((λ _. begun, in_turn_none on c.args.requests.now begun), refl, g.S.StrikeMemory.lasting.at_once c.args.strikes.now)
+    let bare = begun_bare _ _ _ _ c.begin.result c.in_ok-sheet.sheet c.in_ok-sheet.was c.begin.ensures.answer in (
+      (λ _. begun, in_turn_none on c.args.requests.now begun),
+      refl,
+      subst (λ k. g.S.StrikeMemory.filled 0 k c.args.strikes.now c.args.strikes.now) bare (g.S.StrikeMemory.lasting.at_once 0 c.args.strikes.now),
+    )
 
 pub loop-k-preserved : goal.loop-k-preserved
 loop-k-preserved g c =
@@ -21,7 +26,7 @@ loop-k-preserved g c =
       in_turn_next on c.args.requests.now c.loop-k.replies c.loop-k.k _ p after c.loop-k.invariant.0 _ _ c.make.result (omega arith) (slice_get-get_or c.args.requests.now c.loop-k.k _ c.loop-k-test.true)
           (search rules) c.make.ensures.answer,
       grind (arith, common_steps),
-      g.S.StrikeMemory.lasting.then c.args.strikes.now c.loop-k.strikes c.make.new.strikes c.loop-k.invariant.2 c.make.ensures.same,
+      g.S.StrikeMemory.lasting.then 0 c.loop-k.sheet.strikes c.make.new.self.strikes c.args.strikes.now c.loop-k.strikes c.make.new.strikes c.loop-k.invariant.2 c.make.ensures.filled,
     )
 
 pub returns-clause-answer : goal.returns-clause-answer

@@ -10,4 +10,4 @@ invariant-loop-k g l =
     let records = g.S.StrikeMemory.records in
     ((pages : ℕ → Page) × InTurn on pages l.requests (take l.k l.replies) (page l.initial.sheet l.initial.pairs (records l.initial.strikes)) (page l.sheet l.pairs (records l.strikes)))
     × (drop l.k l.replies ≡ drop l.k l.initial.replies)
-    × g.S.StrikeMemory.same l.initial.strikes l.strikes
+    × g.S.StrikeMemory.filled 0 l.sheet.strikes l.initial.strikes l.strikes

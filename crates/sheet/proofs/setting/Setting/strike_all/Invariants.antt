@@ -14,7 +14,7 @@ invariant-loop-done g l =
     Ready (states m) (memory l.pairs (records l.strikes) l.done)
     × (l.passes + l.made ≤ l.done)
     × (later on l.passes (settled_in on (most - l.passes) (memory l.pairs (records l.strikes) l.done)) ≡ settled_in on most (memory l.initial.pairs (records l.initial.strikes) l.made))
-    × g.S.StrikeMemory.same l.initial.strikes l.strikes
+    × g.S.StrikeMemory.filled l.made l.done l.initial.strikes l.strikes
 
 abbrev pub decreases-loop-done : goal.decreases-loop-done
 decreases-loop-done g l = let n = states (g.M.Machine.meaning l.self.machine.now) in n * n - l.done

@@ -16,4 +16,4 @@ returns g c =
     let p = page c.args.self.now c.args.pairs.now (g.S.StrikeMemory.records c.args.strikes.now) in
     let struck : Result (ℕ × ℕ) Refusal = Ok (c.strike_all-made.result.0 - c.args.self.now.strikes, c.strike_all-made.result.1) in
     let answer : Settles on p struck _ = answered_after _ _ _ _ c.check_page.ensures c.in_ok-check_page.was (settle_leaves on p _ _ c.strike_all-made.ensures.after) in
-    record { answer = answer; promise = λ came. settle_kept on (g.M.Machine.bounded c.args.on.now.machine.now) p came (g.O.Order.lawful c.args.on.now.order.now) struck _ answer; same = search rules }
+    record { answer = answer; promise = λ came. settle_kept on (g.M.Machine.bounded c.args.on.now.machine.now) p came (g.O.Order.lawful c.args.on.now.order.now) struck _ answer; filled = search rules }

@@ -16,4 +16,4 @@ returns g c =
     let p = page c.args.self.now c.args.pairs.now (g.S.StrikeMemory.records c.args.strikes.now) in
     let struck : Result ℕ Refusal = Ok (c.sweep_row-made.result - c.args.self.now.strikes) in
     let answer : Sweeps on p c.args.s struck _ = answered_after _ _ _ _ c.check_page.ensures c.in_ok-check_page.was (sweep_leaves on p _ c.args.s c.sweep_row-made.ensures.after) in
-    record { answer = answer; promise = λ came. sweep_kept on (g.M.Machine.bounded c.args.on.now.machine.now) p came c.args.s struck _ answer; same = search rules }
+    record { answer = answer; promise = λ came. sweep_kept on (g.M.Machine.bounded c.args.on.now.machine.now) p came c.args.s struck _ answer; filled = search rules }
