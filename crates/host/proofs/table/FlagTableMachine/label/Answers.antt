@@ -1,0 +1,6 @@
+use Rattle.std.proofs.Common.{rules}
+use Rattle.host.proofs.ByFour.{read_four}
+use Rattle.host.proofs.table.FlagTableMachine.label.Goals as goal
+
+pub returns : goal.returns
+returns c = search (rules, read_four)

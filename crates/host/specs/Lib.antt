@@ -1,0 +1,5 @@
+pub mod Bytes
+pub mod Recorded
+pub mod Said
+pub mod Calls
+pub mod Runs
