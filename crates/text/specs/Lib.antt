@@ -12,7 +12,6 @@ pub mod Writings
 pub mod Statements
 pub mod FormulaTexts
 pub mod Questions
-
 -- What the contracts of the crate's own functions cite; no public contract does.
 pub mod InOrder
 pub mod Leading
