@@ -1,6 +1,6 @@
 -- What the breadth-first search keeps true of its visits and its queue, turn by turn. Assumes nothing.
 use Rattle.std.proofs.Common.{◌≡◌, ℕ, zero, suc, ◌+◌, ◌<◌, ◌≤◌, ◌⊎◌, Some, Option, IsSome, IsNone, sym, refl, ap, ◌∙◌, subst, inl, inr, ⊎_elim, arith}
-use Rattle.std.proofs.lemmas.Bool.{cases_eq, false≢true}
+use Rattle.std.proofs.lemmas.Bool.{cases_eq, cases_lt, false≢true}
 use Rattle.until.specs.declared.search.Visit.{Visit}
 use Rattle.until.specs.Walks.{stop, steps}
 use Rattle.until.specs.Explored.{To, steps_of, before_of, Found}
@@ -58,6 +58,24 @@ module _ {n : ℕ} {S : ℕ → ℕ → Type 0} {ok : ℕ → Type 0} {s : ℕ} 
         (λ e. rw e done)
         (λ ne. g.closed i (omega arith))
         (cases_eq i head);
+  }
+
+  -- where every state is visited, the rest of the queue is done with
+  pub going_full : ((u : ℕ) → u < n → IsSome (visit u)) → ((a b : ℕ) → S a b → b < n) → Going n S ok s visit order tail tail
+  going_full full inside = record {
+    room = g.room;
+    start = g.start;
+    queued = g.queued;
+    sorted = g.sorted;
+    placed = g.placed;
+    near = λ u h m. absurd (omega arith);
+    back = g.back;
+    closed = λ i h o t st. ⊎_elim
+        (λ l. g.closed i l o t st)
+        (λ l.
+        let there : IsSome (visit t) = full t (inside (order i) t st) in
+        (there, omega (arith, g.near t there (omega arith), g.sorted head i l h)))
+        (cases_lt i head);
   }
 
   -- a state that the first one steps to joins the queue

@@ -7,8 +7,8 @@ use Rattle.std.proofs.lemmas.List.Sums.{sum_by-take-le, sum_by-set, count_by-le-
 use Rattle.std.proofs.lemmas.List.{length-take, get_or-take, length-set, get_or-set_same, get_or-set_other, get_or_push, get_or_append_left, length_push}
 use Rattle.model.specs.Machines.{state_bound}
 use Rattle.until.specs.declared.search.Visit.{Visit}
-use Rattle.until.specs.Explored.{steps_of, visit}
-use Rattle.until.proofs.Breadth.{Going, going_start, going_next, going_push}
+use Rattle.until.specs.Explored.{steps_of, visit, Found}
+use Rattle.until.proofs.Breadth.{Going, going_start, going_next, going_full, going_push, going_end}
 
 abbrev pub at : List ℕ → ℕ → ℕ
 at xs i = get_or xs i 0
@@ -72,6 +72,14 @@ module _ {n : ℕ} {S : ℕ → ℕ → Type 0} {ok : ℕ → Type 0} {start : �
         length-take n (set found t (Some v)),
         out.counted,
       )
+
+  -- where as many states are queued as there are, all are visited
+  pub outer_full : n ≤ length order → start < n → ((a b : ℕ) → S a b → b < n) → Found n S ok start (visit found)
+  outer_full all within inside = going_end (going_full out.going (λ u l. visited u l (visit found u) refl) inside) (omega arith) within
+    where
+      visited : (u : ℕ) → u < n → (o : Option Visit) → visit found u ≡ o → IsSome o
+      visited u l None e = absurd (omega (arith, all, room_left u l (ap is_some e)))
+      visited u l (Some v) e = refl
 
   -- the first of the queue is a state that is visited
   pub outer_first : (s : ℕ) → head < length order → at order head ≡ s → (s < state_bound) × IsSome (visit found s)

@@ -42,8 +42,11 @@ fn explore<M: Machine>(machine: &M, row: &[u8], start: usize) -> [Option<Visit>;
     queue.push(start);
     // By its place, since the queue grows while it is read. The states by their numbers, as the machine is asked; they may
     // be fewer than the places of `found`.
+    // Where all are found, no more is looked for.
     let mut head = 0;
-    while let Some(s) = queue.get(head).copied() {
+    while queue.len() < n
+        && let Some(s) = queue.get(head).copied()
+    {
         if marked(row, s) {
             let next = Visit {
                 steps: found[s].unwrap().steps + 1,

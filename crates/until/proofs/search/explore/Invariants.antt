@@ -9,10 +9,10 @@ invariant-loop-t g l =
     let m = g.M.Machine.meaning l.machine in
     Inner (states m) (Step m) (Marked l.row) l.start l.head l.next l.found l.queue.items l.t
 
-abbrev pub invariant-loop-s : goal.invariant-loop-s
-invariant-loop-s g l =
+abbrev pub invariant-loop-queue : goal.invariant-loop-queue
+invariant-loop-queue g l =
     let m = g.M.Machine.meaning l.machine in
     Outer (states m) (Step m) (Marked l.row) l.start l.found l.queue.items l.head
 
-abbrev pub decreases-loop-s : goal.decreases-loop-s
-decreases-loop-s g l = state_bound - l.head
+abbrev pub decreases-loop-queue : goal.decreases-loop-queue
+decreases-loop-queue g l = state_bound - l.head
