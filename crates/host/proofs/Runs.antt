@@ -100,4 +100,4 @@ host_runs_keep_the_law t areas_at requests exchange run =
     let built = each t requests areas_at exchange run.turn in
     let came = begun t run.before (areas_at zero) run.begins flags_at_most in
     let law = running_law (on t) (machine_bounded t) flags_lawful (λ i. page_in (areas_at i)) requests built.0 came (omega (arith, built.1)) built.2 in
-    record { replies = built.0; all = built.1; told = built.3; law = subst (λ k. Law (on t) (page_in (areas_at k)) requests built.0) built.1 law }
+    record { replies = built.0; all = built.1; told = built.3; replied = built.2; law = subst (λ k. Law (on t) (page_in (areas_at k)) requests built.0) built.1 law }

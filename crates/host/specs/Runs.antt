@@ -6,18 +6,19 @@ use Rattle.sheet.specs.declared.request.Request.{Request}
 use Rattle.sheet.specs.declared.request.Request.TheVariants.{Try, Sweep, Settle, Class, Below, Reason, Answer}
 use Rattle.sheet.specs.declared.request.Reply.{Reply}
 use Rattle.sheet.specs.declared.request.Reply.TheVariants.{Tried, Swept, Settled, ClassIs, IsBelow, ReasonIs, Walked}
-use Rattle.sheet.specs.Replies.{Replied}
-use Rattle.sheet.specs.Law.{Law}
+use Rattle.sheet.specs.Replies.{Replied, Replies}
+use Rattle.sheet.specs.Law.{Asked, Law}
 use Rattle.host.specs.Bytes.{record_bytes, Table, machine_in, Areas, page_in}
 use Rattle.host.specs.Said.{verdict_bytes, number_bytes, settled_bytes, state_bytes, bool_bytes, answer_size, number_in, said, lacks}
 use Rattle.host.specs.Calls.{on, HostBegins, HostTries, HostSweeps, HostSettles, HostClasses, HostBelows, HostReasons, HostAnswers}
 
--- What a call was handed beside its table and the sheet's areas, and what it told: the number that it returned, and the
--- areas of its answer and of a walk, before and after.
+-- What a call was handed beside its table and the sheet's areas, and what it told: the number that it returned, and two areas.
 pub record Exchange : Type 0 where
   pub number : ℕ
+  -- The area of the answer, before and after.
   pub area : List ℕ
   pub answer : List ℕ
+  -- The area of walks, before and after.
   pub walk : List ℕ
   pub walked : List ℕ
 
@@ -67,11 +68,13 @@ pub record HostRun (t : Table) (areas_at : ℕ → Areas) (requests : List Reque
   pub begins : HostBegins t before 0 (areas_at zero)
   pub turn : (i : ℕ) (q : Request) → slice_get requests i ≡ Some q → Enough t (areas_at i) q (exchange i) × HostMakes t (areas_at i) q (exchange i) (areas_at (suc i))
 
--- There is one reply to each request, which its number and bytes tell, and the replies keep the law of runs.
+-- There is one reply to each request: the sheet's, on the page that the areas hold then, told by the number and the bytes. The
+-- replies keep the law of runs.
 pub record HostLaw (t : Table) (areas_at : ℕ → Areas) (requests : List Request) (exchange : ℕ → Exchange) : Type 0 where
   pub replies : List Replied
   pub all : length replies ≡ length requests
   pub told : (i : ℕ) (a : Replied) → slice_get replies i ≡ Some a → Tells a (exchange i)
+  pub replied : (i : ℕ) (q : Request) (a : Replied) → Asked requests replies i q a → Replies (on t) (page_in (areas_at i)) q a (page_in (areas_at (suc i)))
   pub law : Law (on t) (page_in (areas_at (length requests))) requests replies
 
 abbrev pub HostRunsKeepTheLaw : Type 0

@@ -24,8 +24,8 @@ pub extern "C" fn comparer_fits(count: usize, labels: &[u8], steps: &[u8]) -> bo
     is_fit(count, labels, steps)
 }
 
-/// Begins a sheet, and writes the whole of it and its pairs. There is no other answer. The strikes are untouched: they are
-/// lent to be written since strike memory is.
+/// Begins a sheet, and writes the whole of it and its pairs. There is no other answer. The strikes are untouched, but lent as to
+/// the calls that write them.
 #[unsafe(no_mangle)]
 pub extern "C" fn comparer_begin(
     count: usize,
