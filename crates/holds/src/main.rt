@@ -2,10 +2,10 @@
 //! refused.
 #![tactic(auto)]
 
-use report::{holds, read_input};
+use report::{holds, read_text};
 use std::process::ExitCode;
 
 fn main(rt: HostRuntime) -> anyhow::Result<ExitCode> {
-    let text = read_input(&rt)?;
+    let text = read_text(rt.alloc(), rt.reader())?;
     holds(rt.alloc(), &text)?.print(&rt)
 }

@@ -14,6 +14,6 @@ mod writing;
 pub use comparison::compare;
 pub use holding::holds;
 pub use lines::{ClassLine, ComparedLine, HoldsLine, StartLine, StrikeLine};
-pub use program::read_input;
+pub use program::read_text;
 pub use refused::{RefusedLine, Section, Spot};
 pub use report::Report;
