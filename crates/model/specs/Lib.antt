@@ -3,3 +3,4 @@ pub mod OrderLaws
 pub mod Machines
 pub mod MachineLaws
 pub mod Refusals
+pub mod Memory

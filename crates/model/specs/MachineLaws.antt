@@ -9,7 +9,8 @@ module _ {L : Type 0} where
   nothing_bounded = record { few = search rules; inside = λ s t h. absurd h }
 
   -- Steps that are tested to lead from state to state do.
-  tested_bounded : (ls : List L) (more : ℕ → ℕ → Bool) → length ls ≤ state_bound → Bounded (record { labels = ls; step = λ s t. are_states (length ls) s t && more s t })
+  tested_bounded : (ls : List L) (more : ℕ → ℕ → Bool) → length ls ≤ state_bound →
+      Bounded (record { labels = ls; step = λ s t. are_states (length ls) s t && more s t })
   tested_bounded ls more few = record { few = few; inside = λ s t h. search rules }
 
   pub tabled_bounded : (ls : List L) (bytes : List ℕ) → length ls ≤ state_bound → Bounded (tabled ls bytes)
@@ -18,7 +19,8 @@ module _ {L : Type 0} where
   pub traced_bounded : (ls : List L) → length ls ≤ state_bound → Bounded (traced ls)
   traced_bounded ls few = tested_bounded ls _ few
 
-  joined_inside : (m n : Meaning L) → Bounded m → Bounded n → (s t : ℕ) → T ((joined m n).step s t) → (s < states m + states n) × (t < states m + states n)
+  joined_inside : (m n : Meaning L) → Bounded m → Bounded n → (s t : ℕ) → T ((joined m n).step s t) →
+      (s < states m + states n) × (t < states m + states n)
   joined_inside m n p q s t h = search (rules, p.inside s t, q.inside (s - states m) (t - states m))
 
   joined_bounded : (m n : Meaning L) → Bounded m → Bounded n → states m + states n ≤ state_bound → Bounded (joined m n)

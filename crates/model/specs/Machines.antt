@@ -44,9 +44,13 @@ tabled ls bytes = record {
   step = λ s t. are_states (length ls) s t && not (slice_index bytes (s * length ls + t) == 0);
 }
 
--- From 1 state to the bound, and a byte for each pair of them.
+-- From 1 state to the bound.
+abbrev pub is_sized : ℕ → Bool
+is_sized n = nat_le 1 n && nat_le n state_bound
+
+-- A count from 1 to the bound, and a byte for each pair of states.
 abbrev pub table_fits : ℕ → ℕ → Bool
-table_fits n bytes = nat_le 1 n && (nat_le n state_bound && bytes == n * n)
+table_fits n bytes = is_sized n && bytes == n * n
 
 -- A table, or no states where its sizes do not fit.
 abbrev pub table_meaning : {L : Type 0} → List L → List ℕ → Meaning L

@@ -43,7 +43,8 @@ pub flags_lawful : Preorder flags_at_most
 flags_lawful = record { reflexive = within_self flag_count; transitive = within_through flag_count }
 
 -- A lawful order on what two functions take out of a label is lawful on the labels.
-pub pulled_lawful : {J K L : Type 0} (f : L → J) (g : L → K) {one : J → J → Bool} {other : K → K → Bool} → Preorder one → Preorder other → Preorder (λ (a b : L). one (f a) (f b) && other (g a) (g b))
+pub pulled_lawful : {J K L : Type 0} (f : L → J) (g : L → K) {one : J → J → Bool} {other : K → K → Bool} → Preorder one →
+    Preorder other → Preorder (λ (a b : L). one (f a) (f b) && other (g a) (g b))
 pulled_lawful f g p q = record {
   reflexive = λ a. grind (arith, p.reflexive (f a), q.reflexive (g a));
   transitive = λ a b c x y. grind (arith, p.transitive (f a) (f b) (f c), q.transitive (g a) (g b) (g c));
@@ -55,7 +56,8 @@ turned_lawful p = record { reflexive = p.reflexive; transitive = λ a b c x y. p
 pub exact_lawful : {L : Type 0} {at_most : L → L → Bool} → Preorder at_most → Preorder (exact_at_most at_most)
 exact_lawful p = pulled_lawful (λ a. a) (λ a. a) p (turned_lawful p)
 
-pub both_lawful : {K L : Type 0} {one : K → K → Bool} {other : L → L → Bool} → Preorder one → Preorder other → Preorder (both_at_most one other)
+pub both_lawful : {K L : Type 0} {one : K → K → Bool} {other : L → L → Bool} → Preorder one → Preorder other →
+    Preorder (both_at_most one other)
 both_lawful p q = pulled_lawful (λ a. a.0) (λ a. a.1) p q
 
 le_z_through : (a b c : ℤ) → a ≤ℤ b → b ≤ℤ c → a ≤ℤ c

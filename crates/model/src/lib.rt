@@ -15,7 +15,7 @@ pub use band::{Band, Span};
 pub use beside::Beside;
 pub use flags::{FlagSet, Flags};
 pub use layers::{Both, Exact, Turned};
-pub use machine::{Machine, STATE_BOUND, State};
+pub use machine::{Machine, STATE_BOUND, State, is_sized};
 pub use order::{Order, order_laws};
 pub use refusal::Refusal;
 pub use table::Table;

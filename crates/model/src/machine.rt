@@ -1,9 +1,16 @@
 //! Machines: states that carry labels, and steps between them.
 ghost use Rattle.std.specs.Prelude.{◌≡◌};
-ghost use Rattle.model.specs.Machines.{Meaning, Bounded, states, label_of};
+ghost use Rattle.model.specs.Machines.{Meaning, Bounded, states, label_of, is_sized};
 
 /// The most states that a machine may have.
 pub const STATE_BOUND: usize = 64;
+
+/// Whether a count is from one to the bound.
+pub fn is_sized(count: usize) -> bool
+    ensures { result ≡ is_sized count }
+{
+    count >= 1 && count <= STATE_BOUND
+}
 
 /// A state's number as memory holds it, in walks and in strike records. Numbers of states are cast to it (`as`), which is
 /// proved to lose nothing; `try_from` would answer an error that never comes.

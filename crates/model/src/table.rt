@@ -3,7 +3,7 @@ ghost use Rattle.std.specs.Prelude.{◌≡◌, ◌*◌, ◌≤◌, length};
 ghost use Rattle.model.specs.Machines.{state_bound, states, label_of, tabled, table_fits, table_meaning};
 ghost use Rattle.model.specs.MachineLaws.{tabled_bounded};
 
-use crate::machine::{Machine, STATE_BOUND};
+use crate::machine::{Machine, is_sized};
 
 /// n labels and n×n bytes, borrowed, as they lie in the memory that is lent: a step from s to t where the byte at s×n+t is not zero.
 #[derive(Drop)]
@@ -20,7 +20,7 @@ impl<'a, L> Table<'a, L> {
         ensures { result ≡ table_fits (length labels.now) (length steps.now) }
     {
         let n = labels.len();
-        n >= 1 && n <= STATE_BOUND && steps.len() == n * n
+        is_sized(n) && steps.len() == n * n
     }
 
     /// Takes up a table. One that does not fit gives the machine of no states.

@@ -5,8 +5,7 @@ ghost use Rattle.model.specs.MachineLaws.{traced_bounded};
 
 use crate::machine::{Machine, STATE_BOUND};
 
-/// A list of labels, borrowed: each state steps to the next, and the last to none. Count, label and what does not fit are
-/// answered as by a table, in a line each: a struct of the list for both was tried, and is 35 lines longer.
+/// A list of labels, borrowed: each state steps to the next, and the last to none.
 #[derive(Drop)]
 pub struct Trace<'a, L> {
     labels: &'a [L],

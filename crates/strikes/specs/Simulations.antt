@@ -14,7 +14,7 @@ module _ {L : Type 0} (at_most : L → L → Bool) (m : Meaning L) where
   abbrev pub LabelsAgree : ℕ → ℕ → Type 0
   LabelsAgree s t = T (under at_most (label_of m s) (label_of m t))
 
-  -- The step from s to u is answered from t: a walk stands against s before its last state, and against u at it.
+  -- The step from s to u is answered from t: some walk from t has R s at every state before its last, and R u at its last.
   abbrev pub Answered : (ℕ → ℕ → Type 0) → ℕ → ℕ → ℕ → Type 0
   Answered R s u t = Walk (Step m) (R s) (R u) t
 

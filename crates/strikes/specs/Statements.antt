@@ -34,7 +34,7 @@ module _ {L : Type 0} (at_most : L → L → Bool) where
       (m : Meaning L) → Bounded m → (ks : List Strike) → Lawful at_most m ks → Stable at_most m ks →
       (s t : ℕ) → s < states m → t < states m → (Standing ks s t × Standing ks t s) ↔ Same m s t
 
-  -- After a lawful and stable list, what stands is a simulation, and every simulation is contained in it.
+  -- After a lawful and stable list, what stands is a simulation, and every simulation that is a test is contained in it.
   abbrev pub StandingIsLargest : Type 0
   StandingIsLargest =
       (m : Meaning L) → Bounded m → (ks : List Strike) → Lawful at_most m ks → Stable at_most m ks →

@@ -10,10 +10,12 @@ use Rattle.strikes.specs.Simulations.{LabelsAgree, Answered}
 abbrev pub names : Strike → ℕ → ℕ → Bool
 names k s t = k.first == s && k.second == t
 
+-- Some strike of the list is of the pair.
 abbrev pub struck : List Strike → ℕ → ℕ → Bool
 struck [] s t = false
 struck (k ∷ ks) s t = names k s t || struck ks s t
 
+-- None is.
 abbrev pub Standing : List Strike → ℕ → ℕ → Type 0
 Standing ks s t = T (not (struck ks s t))
 

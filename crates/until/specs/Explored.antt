@@ -25,7 +25,8 @@ pub record Found (n : ℕ) (S : ℕ → ℕ → Type 0) (ok : ℕ → Type 0) (s
   pub walks : (u : ℕ) → IsSome (visit u) → (s < n) × (w : To S ok s u) × (steps w ≡ steps_of (visit u))
   pub least : (u : ℕ) → s < n → (w : To S ok s u) → IsSome (visit u) × (steps_of (visit u) ≤ steps w)
   pub few : (u : ℕ) → IsSome (visit u) → steps_of (visit u) < n
-  pub back : (u k : ℕ) → IsSome (visit u) → steps_of (visit u) ≡ k + 1 → let b = before_of (visit u) in IsSome (visit b) × (steps_of (visit b) ≡ k) × ok b × S b u
+  pub back : (u k : ℕ) → IsSome (visit u) → steps_of (visit u) ≡ k + 1 →
+      let b = before_of (visit u) in IsSome (visit b) × (steps_of (visit b) ≡ k) × ok b × S b u
 
 abbrev pub visit : List (Option Visit) → ℕ → Option Visit
 visit found u = slice_index_or found u None

@@ -41,8 +41,7 @@ fn explore<M: Machine>(machine: &M, row: &[u8], start: usize) -> [Option<Visit>;
     });
     queue.push(start);
     // By its place, since the queue grows while it is read. The states by their numbers, as the machine is asked; they may
-    // be fewer than the places of `found`.
-    // Where all are found, no more is looked for.
+    // be fewer than the places of `found`. Once all of them are found, nothing is left to look for.
     let mut head = 0;
     while queue.len() < n
         && let Some(s) = queue.get(head).copied()
@@ -90,8 +89,8 @@ pub fn walk_exists<M: Machine>(machine: &M, row: &[u8], goal: &[u8], start: usiz
     meets(&reached(machine, row, start), goal)
 }
 
-/// The nearest state that is marked in `goal`, if any is reached, and its steps. A loop: by `min_by_key` it was tried, and
-/// what the filter before it leaves out was not proved.
+/// The nearest state that is marked in `goal`, if any is reached, and its steps. A loop, since no contract says what a filter
+/// before `min_by_key` leaves out.
 fn nearest(found: &[Option<Visit>; STATE_BOUND], goal: &[u8]) -> Option<(usize, usize)>
     ensures { Chosen (Marked goal.now) (visit found.now) result }
 {
@@ -128,7 +127,7 @@ pub fn shortest_walk<M: Machine>(
         return Ok(None);
     };
     let mut at = last;
-    // By place: tried by `iter_mut().rev()`, of whose writes nothing is known.
+    // By place, since nothing is known of the writes of `iter_mut().rev()`.
     for place in (0..=steps).rev() {
         walk[place] = at as State;
         at = found[at].unwrap().before;
