@@ -3,4 +3,4 @@ pub mod Sides
 pub mod Tells
 pub mod TextTells
 pub mod SaysWhere
-pub mod AskedRead
+pub mod QuestionsRead

@@ -8,7 +8,7 @@ use Rattle.until.specs.Formulas.{Holds}
 use Rattle.until.specs.Lines.{Says, denoted, evaluate_refusal, Evaluated, Evaluates}
 use Rattle.until.specs.Rows.{row_of}
 use Rattle.report.specs.Printed.{holds_lines}
-use Rattle.report.specs.Asked.{SaysWhere}
+use Rattle.report.specs.QuestionsAsked.{SaysWhere}
 
 rows_before : (k n : ℕ) → 0 < k → (k - 1) * n + n ≡ k * n
 rows_before zero n h = absurd (omega arith)

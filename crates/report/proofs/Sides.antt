@@ -4,6 +4,7 @@ use Rattle.std.specs.Result.{MatchResult}
 use Rattle.std.proofs.lemmas.List.{take_at, length-replicate}
 use Rattle.model.specs.declared.flags.FlagSet.{FlagSet}
 use Rattle.model.specs.declared.band.Span.{Span}
+use Rattle.model.specs.Memory.{over}
 use Rattle.text.specs.declared.fault.Side.{Side}
 use Rattle.text.specs.declared.fault.Side.TheVariants.{Order, Left, Right}
 use Rattle.text.specs.declared.fault.Place.{Place}
@@ -12,7 +13,7 @@ use Rattle.text.specs.declared.reading.TwoRead.{TwoRead}
 use Rattle.text.specs.declared.row.Form.{Form}
 use Rattle.text.specs.declared.row.Form.TheVariants.{Machine, Trace}
 use Rattle.text.specs.Faults.{place}
-use Rattle.text.specs.Readings.{Rows, labels_on, places_on, header_on, side_said, side_read, no_side, grid, over, steps_after, is_short, unless_refused, two_said, two_read, Said, SideMemory, side_memory, filled, ReadsTwo}
+use Rattle.text.specs.Readings.{Rows, labels_on, places_on, header_on, side_said, side_read, no_side, grid, steps_after, is_short, unless_refused, two_said, two_read, Said, SideMemory, side_memory, filled, ReadsTwo}
 use Rattle.text.proofs.Grids.{length-marked}
 use Rattle.report.specs.declared.places.Places.{Places}
 use Rattle.text.specs.Statements.{machine_of, machine_on}
@@ -71,9 +72,9 @@ said_of text said h = not_refused _ _ _ said h
 
 module _ (text : List ℕ) (left right : SideMemory (FlagSet × Span)) (left_after right_after : Places) (left_long : is_short left ≡ false) (right_long : is_short right ≡ false) (r : Result TwoRead (Refused Place))
     (reads : ReadsTwo text left right r (side_memory left_after.labels.items left_after.steps.items) (side_memory right_after.labels.items right_after.steps.items)) where
-  -- What is said of an answer.
-  abbrev Says : Result TwoRead (Refused Place) → Type 0
-  Says r = MatchResult r (λ two. (said : Said) × (read_of text ≡ Ok said) × AreSides said two left_after right_after) (λ e. read_of text ≡ Err e)
+  -- What is told of an answer.
+  abbrev Told : Result TwoRead (Refused Place) → Type 0
+  Told r = MatchResult r (λ two. (said : Said) × (read_of text ≡ Ok said) × AreSides said two left_after right_after) (λ e. read_of text ≡ Err e)
 
   abbrev Read : Result Said (Refused Place) → Type 0
   Read o =
@@ -81,9 +82,9 @@ module _ (text : List ℕ) (left right : SideMemory (FlagSet × Span)) (left_aft
       (λ said. (r ≡ Ok (two_read said)) × (side_memory left_after.labels.items left_after.steps.items ≡ filled Left said.rows left) × (side_memory right_after.labels.items right_after.steps.items ≡ filled Right said.rows right))
       (λ e. (r ≡ Err e) × (side_memory left_after.labels.items left_after.steps.items ≡ left) × (side_memory right_after.labels.items right_after.steps.items ≡ right))
 
-  pub sides_read : Says r
+  pub sides_read : Told r
   sides_read = by (read_of text) refl (subst Read (λ i. unless_refused text (place Order 1) (left_long i || right_long i) (two_said text)) reads)
     where
-      by : (o : Result Said (Refused Place)) → read_of text ≡ o → Read o → Says r
-      by (Ok said) e h = subst Says (sym h.0) (said, e, are_sides said (two_counted text said (said_of text said e)) left right left_after right_after h.1 h.2)
-      by (Err x) e h = subst Says (sym h.0) e
+      by : (o : Result Said (Refused Place)) → read_of text ≡ o → Read o → Told r
+      by (Ok said) e h = subst Told (sym h.0) (said, e, are_sides said (two_counted text said (said_of text said e)) left right left_after right_after h.1 h.2)
+      by (Err x) e h = subst Told (sym h.0) e

@@ -3,8 +3,9 @@ pub mod Refused
 pub mod Settled
 pub mod Reports
 pub mod Comparisons
-pub mod Sides
 pub mod Tells
 pub mod TextTells
-pub mod Asked
-pub mod AskedRead
+pub mod QuestionsAsked
+-- What the contracts of the crate's own functions cite; no public contract does.
+pub mod Sides
+pub mod QuestionsRead

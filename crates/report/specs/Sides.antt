@@ -2,12 +2,12 @@
 use Rattle.std.specs.Prelude.{◌≡◌, ℕ, ◌+◌, ◌*◌, ◌<◌, ◌≤◌, length, take}
 use Rattle.model.specs.declared.flags.FlagSet.{FlagSet}
 use Rattle.model.specs.declared.band.Span.{Span}
-use Rattle.model.specs.Machines.{Meaning}
+use Rattle.model.specs.Machines.{Meaning, state_bound}
 use Rattle.text.specs.declared.fault.Side.TheVariants.{Left, Right}
 use Rattle.text.specs.declared.reading.TwoRead.{TwoRead}
 use Rattle.text.specs.declared.row.Form.{Form}
 use Rattle.text.specs.declared.row.Form.TheVariants.{Machine}
-use Rattle.text.specs.Rows.{text_states, label_places, step_places}
+use Rattle.text.specs.Rows.{label_places, step_places}
 use Rattle.text.specs.Readings.{Said}
 use Rattle.report.specs.declared.places.Places.{Places}
 use Rattle.text.specs.Statements.{machine_of, machine_on}
@@ -26,4 +26,4 @@ pub record AreSides (said : Said) (two : TwoRead) (left right : Places) : Type 0
   pub left_says : first_states two.left.form two.left.count left ≡ machine_on Left said.rows
   pub right_says : first_states Machine two.right right ≡ machine_on Right said.rows
   pub some : 0 < two.right
-  pub few : two.left.count + two.right ≤ text_states
+  pub few : two.left.count + two.right ≤ state_bound

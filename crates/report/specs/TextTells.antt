@@ -8,7 +8,7 @@ use Rattle.text.specs.Statements.{machine_on}
 use Rattle.report.specs.Comparisons.{setting_said}
 use Rattle.report.specs.Tells.{ReportTells}
 
--- The left has a first state, the right's first state is one, and what is printed of states is so.
+-- The left has a state, the number at which the right begins is a state of both together, and the report tells what `ReportTells` says.
 pub record TextTells (said : Said) : Type 0 where
   pub left : 0 < states (machine_on Left said.rows)
   pub right : states (machine_on Left said.rows) < size (setting_said said)

@@ -3,7 +3,6 @@ ghost use Rattle.std.specs.Prelude.{◌≡◌, ◌+◌, ◌<◌, ◌≤◌, Ok, 
 ghost use Rattle.model.specs.Machines.{states, state_bound, beside_meaning};
 ghost use Rattle.sheet.specs.Verdicts.{setting};
 ghost use Rattle.text.specs.declared.row.Form.TheVariants.{Machine as MachineForm};
-ghost use Rattle.text.specs.Rows.{text_states};
 ghost use Rattle.text.specs.Readings.{Said};
 ghost use Rattle.text.specs.OrderLines.{text_at_most};
 ghost use Rattle.report.specs.Reports.{report_lines};
@@ -47,7 +46,7 @@ fn report_read(
     right: &Places,
 ) -> Result<String, AllocError>
     requires some { 0 < two.now.right }
-    requires few { two.now.left.count + two.now.right ≤ text_states }
+    requires few { two.now.left.count + two.now.right ≤ state_bound }
     requires left { HasRoom left.now }
     requires right { HasRoom right.now }
     ensures { let before = first_states two.now.left.form two.now.left.count left.now in

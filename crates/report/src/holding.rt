@@ -1,5 +1,5 @@
 //! Where a formula holds that a text asks of its machine.
-ghost use Rattle.std.specs.Prelude.{◌≡◌, ◌+◌, ◌-◌, ◌<◌, ◌≤◌, ◌^◌, length, Some, Ok, Err, IfOk, IfSome, IsTrue, MatchResult, string_bytes};
+ghost use Rattle.std.specs.Prelude.{◌≡◌, ◌+◌, ◌-◌, ◌<◌, ◌≤◌, ◌^◌, length, Some, Ok, Err, IfOk, IfErr, IfSome, IsTrue, MatchResult, string_bytes};
 ghost use Rattle.text.specs.Faults.{refused};
 ghost use Rattle.text.specs.Readings.{text_bound};
 ghost use Rattle.text.specs.FormulaTexts.{formula_places};
@@ -7,8 +7,8 @@ ghost use Rattle.until.specs.Lines.{denoted, all_name_earlier};
 ghost use Rattle.report.specs.Printed.{holds_lines};
 ghost use Rattle.report.specs.Sides.{HasRoom};
 ghost use Rattle.report.specs.Refused.{spot};
-ghost use Rattle.report.specs.Asked.{moved, Asked, Asks, SaysWhere, Answers};
-ghost use Rattle.report.specs.AskedRead.{ReadsMachine, ReadsFormula, IsRead};
+ghost use Rattle.report.specs.QuestionsAsked.{moved, moved_answer, QuestionAsked, Asks, SaysWhere, IsPrinted};
+ghost use Rattle.report.specs.QuestionsRead.{ReadsMachine, ReadsFormula, IsRead};
 
 use crate::lines::HoldsLine;
 use crate::places::{Label, Places};
@@ -73,6 +73,21 @@ impl Section {
             place,
         }
     }
+
+    /// An answer of this part, before which come so many lines.
+    fn moved_answer(
+        self,
+        before: usize,
+        answer: Result<usize, Refused<usize>>,
+    ) -> Result<usize, Refused<Spot>>
+        requires { IfErr answer (λ refused. IfSome refused.place (λ line. before + line < 2 ^ 63)) }
+        ensures { result ≡ moved_answer self before answer }
+    {
+        match answer {
+            Ok(count) => Ok(count),
+            Err(refused) => Err(self.moved(before, refused)),
+        }
+    }
 }
 
 /// Reads the text of the machine, which comes after the line of the order.
@@ -82,10 +97,8 @@ fn read_states(order: &TextOrder, text: &[u8], places: &mut Places) -> Result<us
     ensures reads { ReadsMachine order.now text.now places.new result }
     ensures places { HasRoom places.new }
 {
-    match read_machine(order, text, &mut places.labels, &mut places.steps) {
-        Ok(count) => Ok(count),
-        Err(refused) => Err(Section::Machine.moved(1, refused)),
-    }
+    let answer = read_machine(order, text, &mut places.labels, &mut places.steps);
+    Section::Machine.moved_answer(1, answer)
 }
 
 /// Reads the text of the formula, which comes after so many lines.
@@ -100,10 +113,8 @@ fn read_lines(
     ensures reads { ReadsFormula order.now text.now before lines.new result }
     ensures lines { length lines.new ≡ formula_places }
 {
-    match read_formula(order, text, lines) {
-        Ok(count) => Ok(count),
-        Err(refused) => Err(Section::Formula.moved(before, refused)),
-    }
+    let answer = read_formula(order, text, lines);
+    Section::Formula.moved_answer(before, answer)
 }
 
 /// Reads the parts of a text.
@@ -114,7 +125,7 @@ fn read(
 ) -> Result<QuestionRead, Refused<Spot>>
     requires places { HasRoom places.old }
     requires lines { length lines.old ≡ formula_places }
-    ensures says { MatchResult result (λ r. (a : Asked) × Asks text.now (Ok a) × IsRead a r places.new lines.new) (λ e. Asks text.now (Err e)) }
+    ensures says { MatchResult result (λ r. (asked : QuestionAsked) × Asks text.now (Ok asked) × IsRead asked r places.new lines.new) (λ e. Asks text.now (Err e)) }
     ensures places { HasRoom places.new }
     ensures lines { length lines.new ≡ formula_places }
 {
@@ -154,7 +165,7 @@ fn answer<M: Machine, O: Order<Label = M::Label>>(
 
 /// Says at which states of the machine of a text its formula holds. Only memory may run out.
 pub fn holds(heap: Global, text: &[u8]) -> Result<Report, AllocError>
-    ensures { IfOk result (λ report. Answers text.now (string_bytes report.lines) report.is_refusal) }
+    ensures printed { IfOk result (IsPrinted text.now) }
 {
     let mut places = Places::new(heap)?;
     let mut lines = vec![in heap; Line::True; FORMULA_PLACES]?;

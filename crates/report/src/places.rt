@@ -1,8 +1,7 @@
 //! Memory for what is read of a text.
 ghost use Rattle.std.specs.Prelude.{◌≡◌, ◌≤◌, IfOk};
-ghost use Rattle.model.specs.Machines.{tabled, traced};
+ghost use Rattle.model.specs.Machines.{tabled, traced, state_bound};
 ghost use Rattle.text.specs.declared.row.Form.TheVariants.{Machine as MachineForm, Trace as TraceForm};
-ghost use Rattle.text.specs.Rows.{text_states};
 ghost use Rattle.report.specs.Sides.{HasRoom, first_states};
 
 use model::{FlagSet, Span, Table, Trace};
@@ -34,7 +33,7 @@ impl Places {
 
     /// The machine of the first `n` states.
     pub(crate) fn table(&self, n: usize) -> Table<'_, Label>
-        requires states { n ≤ text_states }
+        requires states { n ≤ state_bound }
         requires room { HasRoom self.now }
         ensures { tabled result.labels.now result.steps.now ≡ first_states MachineForm n self.now }
     {
@@ -43,7 +42,7 @@ impl Places {
 
     /// The trace of the first `n` states.
     pub(crate) fn trace(&self, n: usize) -> Trace<'_, Label>
-        requires states { n ≤ text_states }
+        requires states { n ≤ state_bound }
         requires room { HasRoom self.now }
         ensures { traced result.labels.now ≡ first_states TraceForm n self.now }
     {

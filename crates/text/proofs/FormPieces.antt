@@ -19,7 +19,7 @@ pub inside_form : (w : Word) (zs : List ℤ) → inside (form w zs) ≡ letters_
 inside_form w zs = ap (λ l. inside (40 ∷ l)) (sym (append_assoc (letters_of w) (items zs) (codes ")"))) ∙ inside_brackets (letters_of w ++ items zs)
 
 -- A word and numbers, each after a space, are cut there.
-pieces_items : (word : List ℕ) (zs : List ℤ) → Lacks 32 word → All Small zs → pieces 32 (word ++ items zs) ≡ word ∷ map signed_decimal zs
+pub pieces_items : (word : List ℕ) (zs : List ℤ) → Lacks 32 word → All Small zs → pieces 32 (word ++ items zs) ≡ word ∷ map signed_decimal zs
 pieces_items word [] lacks small = ap (pieces 32) (append-nil word) ∙ pieces_whole 32 word lacks
 pieces_items word (z ∷ zs) lacks small =
     let number = not_in_word 32 refl (signed_decimal z) (number_in_word z (All-head Small z zs small)) in

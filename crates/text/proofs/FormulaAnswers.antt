@@ -3,6 +3,7 @@ use Rattle.std.proofs.Common.{◌≡◌, ℕ, ◌-◌, ◌<◌, ◌≤◌, true,
 use Rattle.std.proofs.lemmas.Grind.{common_steps}
 use Rattle.std.proofs.lemmas.List.{length-map}
 use Rattle.std.specs.Prelude.{nat_lt}
+use Rattle.model.specs.Memory.{over}
 use Rattle.until.specs.declared.formula.Line.{Line}
 use Rattle.until.specs.Formulas.{Formula}
 use Rattle.until.specs.Lines.{denoted, all_name_earlier}
@@ -12,8 +13,8 @@ use Rattle.text.specs.declared.fault.Refused.{Refused}
 use Rattle.text.specs.Faults.{refused, refused_at}
 use Rattle.text.specs.Lines.{pieces, first_piece}
 use Rattle.text.specs.Spelling.{Spelling}
-use Rattle.text.specs.Readings.{over, unless_refused}
-use Rattle.text.specs.FormulaTexts.{size, flat, first_line, line_checked, line_in, Writes, alone, Says, SaysOne, ReadsFormula}
+use Rattle.text.specs.Readings.{unless_refused}
+use Rattle.text.specs.FormulaTexts.{size, flat, placed_first, line_checked, line_in, Writes, alone, FormulaSaid, SaysOne, ReadsFormula}
 use Rattle.text.specs.FormulaParts.{line_with, shown, lines_of, Gives, ReadsText}
 use Rattle.text.proofs.FormulaFilling.{length-lines_of}
 use Rattle.text.proofs.FormulaMeanings.{denoted_flat, earlier_flat}
@@ -67,7 +68,7 @@ module _ {L : Type 0} (understood : List ℤ → Option L) (text : List ℕ) whe
     -- a text that is read, and its lines in memory
     pub record Filled (n : ℕ) (after : List (Line L)) : Type 0 where
       pub formula : Formula L
-      pub says : Says understood text (length memory) (Ok formula)
+      pub says : FormulaSaid understood text (length memory) (Ok formula)
       pub writes : Writes understood (first_piece (pieces 10 text)) (Some formula)
       pub count : n ≡ size formula
       pub lines : after ≡ over (flat 0 formula) memory
@@ -98,7 +99,7 @@ module _ {L : Type 0} (understood : List ℤ → Option L) where
   alone_same line ((b ∷ bs) ∷ qs) F G e = cc
 
   writes_checked : (line piece : List ℕ) (more : List (List ℕ)) (F : Formula L) (checked : Result (Unit {0}) Fault) →
-      MatchResult (first_line line checked) (λ l. (G : Option (Formula L)) × Writes understood l G × (Said F ≡ alone understood G (line ∷ piece ∷ more))) (λ e. Said F ≡ Err e) → Writes understood line (Some F)
+      MatchResult (placed_first line checked) (λ l. (G : Option (Formula L)) × Writes understood l G × (Said F ≡ alone understood G (line ∷ piece ∷ more))) (λ e. Said F ≡ Err e) → Writes understood line (Some F)
   writes_checked line piece more F (Err f) says = cc
   writes_checked line piece more F (Ok u) (None, writes, e) = cc
   writes_checked line piece more F (Ok u) (Some G, writes, e) = subst (λ H. Writes understood line (Some H)) (alone_same line (piece ∷ more) F G e) writes

@@ -7,7 +7,7 @@ use Rattle.text.specs.declared.fault.Refused.{Refused}
 use Rattle.text.specs.Lines.{newline, pieces}
 use Rattle.text.specs.Faults.{refused, refused_at}
 use Rattle.text.specs.Readings.{text_bound}
-use Rattle.text.specs.FormulaTexts.{formula_places, line_checked, first_line, line_in, Writes, alone, Says}
+use Rattle.text.specs.FormulaTexts.{formula_places, line_checked, placed_first, line_in, Writes, alone, FormulaSaid}
 
 abbrev pub Near : Refused ℕ → Type 0
 Near e = IfSome e.place (λ k. k ≤ 2)
@@ -18,7 +18,7 @@ refusal e = Err e
 near : {A : Type 0} (fault : Fault) (k : ℕ) (e : Refused ℕ) → k ≤ 2 → refusal {A = A} (refused_at fault k) ≡ Err e → Near e
 near fault k e low h = let same : refused_at fault k ≡ e = cc in subst Near same low
 
-checked_near : (line : List ℕ) (o : Result (Unit {0}) Fault) (e : Refused ℕ) → first_line line o ≡ Err e → Near e
+checked_near : (line : List ℕ) (o : Result (Unit {0}) Fault) (e : Refused ℕ) → placed_first line o ≡ Err e → Near e
 checked_near line (Ok u) e h = absurd (cc)
 checked_near line (Err fault) e h = near fault 1 e (omega arith) h
 
@@ -51,5 +51,5 @@ module _ {L : Type 0} (understood : List ℤ → Option L) where
   told_near text e (Ok line) rest t = alone_near t.0 (pieces newline text) e (sym t.2)
   told_near text e (Err x) rest t = let same : x ≡ e = cc in subst Near same (rest x refl)
 
-  pub formula_near : (text : List ℕ) (room : ℕ) (e : Refused ℕ) → Says understood text room (Err e) → Near e
+  pub formula_near : (text : List ℕ) (room : ℕ) (e : Refused ℕ) → FormulaSaid understood text room (Err e) → Near e
   formula_near text room e says = told_near text e _ (unless_near (ltb text_bound (length text)) (ltb room formula_places) (pieces newline text)) says

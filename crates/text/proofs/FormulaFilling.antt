@@ -8,14 +8,14 @@ use Rattle.until.specs.declared.formula.Line.{Line}
 use Rattle.text.specs.Numbers.{both}
 use Rattle.text.specs.FormulaParts.{line_with, shown, line_of, lines_of}
 use Rattle.text.proofs.FormulaMeanings.{lines_of-append, each_there}
-use Rattle.text.proofs.FormulaWritten.{both_parts}
+use Rattle.text.proofs.AllThere.{all_there}
 
 module _ {L : Type 0} (understood : List ℤ → Option L) where
   pub length-lines_of : (xs : List (Line (List ℕ))) (ys : List (Line L)) → lines_of understood xs ≡ Some ys → length xs ≡ length ys
   length-lines_of [] ys e = let none : [] ≡ ys = cc in ap length none
   length-lines_of (x ∷ xs) ys e =
-      let parts = both_parts ◌∷◌ (line_of understood x) (lines_of understood xs) ys e in
-      ap suc (length-lines_of xs parts.1 parts.3) ∙ ap length parts.4
+      let f = all_there (line_of understood x) (lines_of understood xs) ys e in
+      ap suc (length-lines_of xs f.others f.others_so) ∙ ap length (sym f.are)
 
   pub there_at : (xs : List (Line (Bor (List ℕ)))) (i : ℕ) (x : Line (Bor (List ℕ))) → is_some (lines_of understood (shown xs)) ≡ true → i < length xs → is_some (line_of understood (line_with (λ b. b.now) (get_or xs i x))) ≡ true
   there_at xs i x all inside =

@@ -11,7 +11,8 @@ use Rattle.text.specs.Numbers.{both}
 use Rattle.text.specs.FormulaTexts.{formula_by, size, own, flat}
 use Rattle.text.specs.FormulaParts.{line_with, shown, label_of, line_of, lines_of}
 use Rattle.text.proofs.FormulaSizes.{size_some, length-flat}
-use Rattle.text.proofs.FormulaWritten.{mapped, both_parts}
+use Rattle.text.proofs.FormulaWritten.{mapped}
+use Rattle.text.proofs.AllThere.{both_parts}
 
 -- a formula with its labels read has as many lines
 size_by : {A L : Type 0} (f : A → Option L) (F : Formula A) (G : Formula L) → formula_by f F ≡ Some G → size G ≡ size F
@@ -19,10 +20,10 @@ size_by f truth G e = let same : truth ≡ G = cc in ap size (sym same)
 size_by f (at a) G e = let label = mapped at (f a) G e in ap size (sym label.2)
 size_by f (and F G) H e =
     let parts = both_parts and (formula_by f F) (formula_by f G) H e in
-    ap size (sym parts.4) ∙ (λ i. size_by f F parts.0 parts.2 i + size_by f G parts.1 parts.3 i + 1)
+    ap size (sym parts.are) ∙ (λ i. size_by f F parts.first parts.first_so i + size_by f G parts.second parts.second_so i + 1)
 size_by f (until F G) H e =
     let parts = both_parts until (formula_by f F) (formula_by f G) H e in
-    ap size (sym parts.4) ∙ (λ i. size_by f F parts.0 parts.2 i + size_by f G parts.1 parts.3 i + 1)
+    ap size (sym parts.are) ∙ (λ i. size_by f F parts.first parts.first_so i + size_by f G parts.second parts.second_so i + 1)
 
 both_assoc : {A : Type 0} (a : Option A) (b c : Option (List A)) → both ◌∷◌ a (both ◌++◌ b c) ≡ both ◌++◌ (both ◌∷◌ a b) c
 both_assoc None b c = refl

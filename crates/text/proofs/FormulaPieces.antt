@@ -1,20 +1,11 @@
 -- Labels of formulas, cut at their brackets. Assumes nothing.
-use Rattle.std.proofs.Common.{◌≡◌, ℕ, ◌<◌, ◌==◌, false, List, [], ◌∷◌, ◌++◌, length, refl, sym, ap, subst, ◌∙◌, arith}
-use Rattle.std.specs.List.{join_with_byte, onto_first}
+use Rattle.std.proofs.Common.{◌≡◌, ℕ, ◌<◌, ◌==◌, false, List, [], ◌∷◌, length, refl, sym, ap, subst, ◌∙◌, arith}
+use Rattle.std.specs.List.{onto_first}
 use Rattle.std.proofs.lemmas.Bool.{cond_both}
 use Rattle.std.proofs.lemmas.List.Elements.{All-nil, All-cons}
 use Rattle.text.specs.Lines.{pieces, first_piece}
 use Rattle.text.specs.FormulaParts.{LabelFront}
-use Rattle.text.proofs.Pieces.{Lacks, some_pieces, pieces_front, pieces_joined}
-
-join_more : (stop : ℕ) (p : List ℕ) (ps : List (List ℕ)) → 0 < length ps → join_with_byte stop (p ∷ ps) ≡ p ++ stop ∷ join_with_byte stop ps
-join_more stop p [] h = absurd (omega arith)
-join_more stop p (q ∷ ps) h = refl
-
-joined_front : (stop : ℕ) (bytes front rest : List ℕ) → pieces stop bytes ≡ front ∷ pieces stop rest → bytes ≡ front ++ stop ∷ rest
-joined_front stop bytes front rest e =
-    pieces_joined stop bytes (front ∷ pieces stop rest) e ∙ join_more stop front (pieces stop rest) (some_pieces stop rest)
-    ∙ ap (λ l. front ++ stop ∷ l) (sym (pieces_joined stop rest (pieces stop rest) refl))
+use Rattle.text.proofs.Pieces.{Lacks, some_pieces, pieces_front, pieces_of_two}
 
 first_onto : (b : ℕ) (ps : List (List ℕ)) → first_piece (onto_first b ps) ≡ b ∷ first_piece ps
 first_onto b [] = refl
@@ -32,7 +23,7 @@ first_lacks stop (b ∷ bs) =
 pub label_front : (bytes label rest : List ℕ) → pieces 41 bytes ≡ label ∷ pieces 41 rest → 0 < length label → LabelFront bytes label rest
 label_front bytes label rest e some = record {
   labelled = record { any = some; unclosed = subst (λ ps. Lacks 41 (first_piece ps)) e (first_lacks 41 bytes) };
-  is = joined_front 41 bytes label rest e;
+  is = pieces_of_two 41 bytes label rest e;
 }
 
 pub no_label : (bytes : List ℕ) (p : List ℕ) → pieces 41 bytes ≡ p ∷ [] → (label rest : List ℕ) → LabelFront bytes label rest → ⊥

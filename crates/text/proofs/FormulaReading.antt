@@ -10,7 +10,7 @@ use Rattle.text.specs.declared.fault.Fault.TheVariants.{NoForm, WrongItems, OutO
 use Rattle.text.specs.declared.fault.Refused.{Refused}
 use Rattle.text.specs.Faults.{refused_at}
 use Rattle.text.specs.Lines.{pieces}
-use Rattle.text.specs.FormulaTexts.{first_line, line_in, line_checked, Writes, alone}
+use Rattle.text.specs.FormulaTexts.{placed_first, line_in, line_checked, Writes, alone}
 use Rattle.text.specs.FormulaParts.{AreLinesOf, Gives, ReadsLine, ReadsText}
 use Rattle.text.proofs.Pieces.{some_pieces, pieces_joined}
 
@@ -46,7 +46,7 @@ module _ {L : Type 0} (understood : List ℤ → Option L) where
 
   refused_line : (line piece : List ℕ) (more : List (List ℕ)) (fault : Fault) (r : Result Lines (Refused ℕ)) (checked : Result (Unit {0}) Fault) →
       MatchResult checked (λ _. (F : Option (Formula L)) × Writes understood line F × Gives understood (ok_or F WrongItems) (Err fault)) (λ f. failed fault ≡ failed f) → r ≡ Err (refused_at fault 1) →
-      MatchResult (first_line line checked) (λ l. (F : Option (Formula L)) × Writes understood l F × Gives understood (alone understood F (line ∷ piece ∷ more)) r) (λ e. r ≡ Err e)
+      MatchResult (placed_first line checked) (λ l. (F : Option (Formula L)) × Writes understood l F × Gives understood (alone understood F (line ∷ piece ∷ more)) r) (λ e. r ≡ Err e)
   refused_line line piece more fault r (Err f) reads e = e ∙ ap (λ g. Err (refused_at g 1)) (sym (fault_same fault f reads))
   refused_line line piece more fault r (Ok u) (None, writes, gives) e = (None, writes, e ∙ ap (λ g. Err (refused_at g 1)) (sym (fault_same fault WrongItems gives)))
   refused_line line piece more fault r (Ok u) (Some G, writes, gives) e = absurd gives
@@ -63,7 +63,7 @@ module _ {L : Type 0} (understood : List ℤ → Option L) where
   read_line_alone : (line : List ℕ) (ps : List (List ℕ)) (lines : Lines) (r : Result Lines (Refused ℕ)) (checked : Result (Unit {0}) Fault) →
       MatchResult checked (λ _. (F : Option (Formula L)) × Writes understood line F × Gives understood (ok_or F WrongItems) (Ok lines)) (λ f. found lines ≡ failed f) →
       ((G : Formula L) → AreLinesOf understood G lines → Gives understood (alone understood (Some G) ps) r) →
-      MatchResult (first_line line checked) (λ l. (F : Option (Formula L)) × Writes understood l F × Gives understood (alone understood F ps) r) (λ e. r ≡ Err e)
+      MatchResult (placed_first line checked) (λ l. (F : Option (Formula L)) × Writes understood l F × Gives understood (alone understood F ps) r) (λ e. r ≡ Err e)
   read_line_alone line ps lines r (Err f) reads gives = cc
   read_line_alone line ps lines r (Ok u) (None, writes, given) gives = cc
   read_line_alone line ps lines r (Ok u) (Some G, writes, given) gives = (Some G, writes, gives G given)

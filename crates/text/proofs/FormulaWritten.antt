@@ -6,6 +6,7 @@ use Rattle.text.specs.Numbers.{both, numbers, items}
 use Rattle.text.specs.Spelling.{Spelling}
 use Rattle.text.specs.FormulaTexts.{letters, formula_by, formula_label, deepest, Writes}
 use Rattle.text.specs.FormulaParts.{bytes_of, Labelled, Front, NoFront, label_of}
+use Rattle.text.proofs.AllThere.{both_parts}
 use Rattle.text.proofs.FormulaFronts.{same_front}
 use Rattle.text.proofs.FormulaDepths.{nesting_deepest}
 use Rattle.text.proofs.FormulaLabels.{label_bytes, is_label, items_bytes, understood_small, label_back}
@@ -17,11 +18,6 @@ mapped f (Some a) b e = (a, refl, cc)
 chained : {A B : Type 0} (f : A → Option B) (o : Option A) (b : B) → option_and_then f o ≡ Some b → (a : A) × (o ≡ Some a) × (f a ≡ Some b)
 chained f None b e = cc
 chained f (Some a) b e = (a, refl, e)
-
-pub both_parts : {A B C : Type 0} (join : A → B → C) (a : Option A) (b : Option B) (c : C) → both join a b ≡ Some c → (x : A) × (y : B) × (a ≡ Some x) × (b ≡ Some y) × (join x y ≡ c)
-both_parts join None b c e = cc
-both_parts join (Some x) None c e = cc
-both_parts join (Some x) (Some y) c e = (x, y, refl, refl, cc)
 
 module _ {L : Type 0} {spelled : L → Option (List ℤ)} (understood : List ℤ → Option L) (spelling : Spelling spelled understood) where
   -- the same formula with its labels as bytes
@@ -39,24 +35,24 @@ module _ {L : Type 0} {spelled : L → Option (List ℤ)} (understood : List ℤ
       (at (label_bytes (z ∷ zs)), record { labelled = is_label z zs small; is = refl; same = ap (option_map at) (label_back understood spelling z zs small) ∙ e })
   as_bytes (and M N) G e =
       let parts = both_parts and (formula_by (formula_label understood) M) (formula_by (formula_label understood) N) G e in
-      let one = as_bytes M parts.0 parts.2 in
-      let two = as_bytes N parts.1 parts.3 in (
+      let one = as_bytes M parts.first parts.first_so in
+      let two = as_bytes N parts.second parts.second_so in (
         and one.0 two.0,
         record {
           labelled = (one.1.labelled, two.1.labelled);
           is = λ i. 40 ∷ 97 ∷ 110 ∷ 100 ∷ 32 ∷ (one.1.is i ++ (32 ∷ (two.1.is i ++ 41 ∷ [])));
-          same = (λ i. both and (one.1.same i) (two.1.same i)) ∙ ap Some parts.4;
+          same = (λ i. both and (one.1.same i) (two.1.same i)) ∙ ap Some parts.are;
         },
       )
   as_bytes (until M N) G e =
       let parts = both_parts until (formula_by (formula_label understood) M) (formula_by (formula_label understood) N) G e in
-      let one = as_bytes M parts.0 parts.2 in
-      let two = as_bytes N parts.1 parts.3 in (
+      let one = as_bytes M parts.first parts.first_so in
+      let two = as_bytes N parts.second parts.second_so in (
         until one.0 two.0,
         record {
           labelled = (one.1.labelled, two.1.labelled);
           is = λ i. 40 ∷ 117 ∷ 110 ∷ 116 ∷ 105 ∷ 108 ∷ 32 ∷ (one.1.is i ++ (32 ∷ (two.1.is i ++ 41 ∷ [])));
-          same = (λ i. both until (one.1.same i) (two.1.same i)) ∙ ap Some parts.4;
+          same = (λ i. both until (one.1.same i) (two.1.same i)) ∙ ap Some parts.are;
         },
       )
 
@@ -72,19 +68,19 @@ module _ {L : Type 0} {spelled : L → Option (List ℤ)} (understood : List ℤ
       go (z ∷ zs) is e = (at (z ∷ zs), ap (λ l. 40 ∷ 97 ∷ 116 ∷ (l ++ 41 ∷ [])) is, e)
   as_numbers (and F G) H e =
       let parts = both_parts and (formula_by (label_of understood) F) (formula_by (label_of understood) G) H e in
-      let one = as_numbers F parts.0 parts.2 in
-      let two = as_numbers G parts.1 parts.3 in (
+      let one = as_numbers F parts.first parts.first_so in
+      let two = as_numbers G parts.second parts.second_so in (
         and one.0 two.0,
         λ i. 40 ∷ 97 ∷ 110 ∷ 100 ∷ 32 ∷ (one.1 i ++ (32 ∷ (two.1 i ++ 41 ∷ []))),
-        (λ i. both and (one.2 i) (two.2 i)) ∙ ap Some parts.4,
+        (λ i. both and (one.2 i) (two.2 i)) ∙ ap Some parts.are,
       )
   as_numbers (until F G) H e =
       let parts = both_parts until (formula_by (label_of understood) F) (formula_by (label_of understood) G) H e in
-      let one = as_numbers F parts.0 parts.2 in
-      let two = as_numbers G parts.1 parts.3 in (
+      let one = as_numbers F parts.first parts.first_so in
+      let two = as_numbers G parts.second parts.second_so in (
         until one.0 two.0,
         λ i. 40 ∷ 117 ∷ 110 ∷ 116 ∷ 105 ∷ 108 ∷ 32 ∷ (one.1 i ++ (32 ∷ (two.1 i ++ 41 ∷ []))),
-        (λ i. both until (one.2 i) (two.2 i)) ∙ ap Some parts.4,
+        (λ i. both until (one.2 i) (two.2 i)) ∙ ap Some parts.are,
       )
 
   none_by : (N : Formula (List ℤ)) (H : Option (Formula L)) → formula_by (formula_label understood) N ≡ H → ((G : Formula L) → formula_by (formula_label understood) N ≡ Some G → ⊥) → H ≡ None

@@ -5,7 +5,7 @@ use Rattle.std.proofs.lemmas.List.{length-replicate, get_or-replicate}
 use Rattle.std.proofs.lemmas.Nat.{mul-add-lt}
 use Rattle.std.proofs.lemmas.Bool.Decides.{nat_tests}
 use Rattle.std.proofs.lemmas.Grind.{common_steps}
-use Rattle.model.specs.Machines.{state_bound, tabled, table_meaning}
+use Rattle.model.specs.Machines.{state_bound, is_sized, tabled, table_meaning}
 use Rattle.text.specs.Readings.{marked_at, grid}
 use Rattle.text.proofs.Places.{among}
 
@@ -27,7 +27,7 @@ module _ {L : Type 0} (ls : List L) (places : List ℕ) where
   pub grid_fits : 0 < length ls → length ls ≤ state_bound → table_meaning ls (grid (length ls) places) ≡ tabled ls (grid (length ls) places)
   grid_fits some few =
       let square : length (grid (length ls) places) ≡ length ls * length ls = length-marked (replicate (length ls * length ls) 0) places ∙ length-replicate {A = ℕ} (length ls * length ls) 0 in
-      cond-true _ _ _ (and_from (leb 1 (length ls)) _ (le-leb 1 (length ls) some) (and_from (leb (length ls) state_bound) _ (le-leb (length ls) state_bound few) (eq-eqb _ _ square)))
+      cond-true _ _ _ (and_from (is_sized (length ls)) _ (and_from (leb 1 (length ls)) _ (le-leb 1 (length ls) some) (le-leb (length ls) state_bound few)) (eq-eqb _ _ square))
 
   pub grid_step : (s t : ℕ) → s < length ls → t < length ls → (tabled ls (grid (length ls) places)).step s t ≡ among (s * length ls + t) places
   grid_step s t hs ht =

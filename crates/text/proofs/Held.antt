@@ -1,11 +1,12 @@
 -- What a side holds, its rows and its text. Assumes nothing.
 use Rattle.std.proofs.Common.{◌≡◌, ℕ, ◌+◌, ◌*◌, ◌<◌, ◌≤◌, false, List, [], ◌∷◌, ◌++◌, length, Option, Some, ℤ, pos, refl, sym, ap, ◌∙◌, append_assoc}
+use Rattle.model.specs.Machines.{state_bound}
 use Rattle.text.specs.declared.fault.Side.{Side}
 use Rattle.text.specs.declared.fault.Side.TheVariants.{Right}
 use Rattle.text.specs.declared.row.Form.{Form}
 use Rattle.text.specs.declared.row.Row.{Row}
 use Rattle.text.specs.declared.row.Row.TheVariants.{Header, Label, Step}
-use Rattle.text.specs.Rows.{text_states, is_machine}
+use Rattle.text.specs.Rows.{is_machine}
 use Rattle.text.specs.Readings.{Rows, header_on, labels_on, places_on, side_read}
 use Rattle.text.specs.Writings.{line, label_lines, all_spelled}
 use Rattle.text.proofs.SideLines.{header_word}
@@ -30,7 +31,7 @@ pub record Held {L : Type 0} (spelled : L → Option (List ℤ)) : Type 0 where
   pub numbers : List (List ℤ)
   pub places : List ℕ
   pub some : 0 < length labels
-  pub few : length labels ≤ text_states
+  pub few : length labels ≤ state_bound
   pub spelled_so : all_spelled spelled labels ≡ Some numbers
   pub rising : Rising 0 places (length labels * length labels)
   pub bare : is_machine form ≡ false → places ≡ []

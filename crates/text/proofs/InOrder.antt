@@ -4,7 +4,7 @@ use Rattle.std.proofs.lemmas.Bool.{cond_both, ltb-true, ltb-false}
 use Rattle.std.proofs.lemmas.Nat.{mul-add-lt}
 use Rattle.text.specs.declared.fault.Side.{Side}
 use Rattle.text.specs.declared.word.Word.{Word}
-use Rattle.text.specs.declared.word.Word.TheVariants.{Label as LabelWord, Step as StepWord}
+use Rattle.text.specs.declared.word.Word.TheVariants.{Machine as MachineWord, Trace as TraceWord, Label as LabelWord, Step as StepWord}
 use Rattle.text.specs.declared.row.Shape.{Shape}
 use Rattle.text.specs.declared.row.Form.{Form}
 use Rattle.text.specs.declared.row.Form.TheVariants.{Machine, Trace}
@@ -24,6 +24,21 @@ use Rattle.text.proofs.SideRows.{on}
 use Rattle.text.proofs.Held.{step_rows, label_rows}
 use Rattle.text.proofs.Places.{Rising}
 use Rattle.text.proofs.StepTexts.{step_text, step_text_at}
+
+module _ {L : Type 0} (understood : List ℤ → Option L) (shape : Shape) (due : Due) (k : ℕ) (text : List ℕ) (side : Side) (rs : Rows L) where
+  -- A row that comes first is said by a line.
+  pub first_said : (r : Row L) → rows understood shape due k (pieces 10 text) ≡ Ok ((side, r) ∷ rs) → (l : List ℕ) × LineSays understood due l r
+  first_said r h = let f = rows_first understood shape due k text side r rs h in (f.line, line_says understood shape due f.line r f.said)
+
+  -- No header comes first where its word is not due.
+  pub no_header : is_due due MachineWord ≡ false → is_due due TraceWord ≡ false → (form : Form) (n : ℕ) → rows understood shape due k (pieces 10 text) ≡ Ok ((side, Header form n) ∷ rs) → ⊥
+  no_header machine trace form n h =
+      let w = (first_said (Header form n) h).1 in
+      none form (ap (is_due due) (sym w.says.word) ∙ w.may_come)
+    where
+      none : (form : Form) → is_due due (header_word form) ≡ true → ⊥
+      none Machine e = cc
+      none Trace e = cc
 
 -- A line with its newline, and what comes after it.
 pub line_then : (text l : List ℕ) (word : Word) (zs : List ℤ) (rest after : List ℕ) → text ≡ l ++ 10 ∷ rest → l ≡ form word zs → rest ≡ after → text ≡ line word zs ++ after
@@ -85,9 +100,7 @@ module _ {L : Type 0} (spelled : L → Option (List ℤ)) (understood : List ℤ
     steps_read place k text ((other, Header form m) ∷ rs) le h =
         record { places = []; rest = text; others = (other, Header form m) ∷ rs; rising = le; bare = λ _. refl; is = refl; rows_are = refl; then = begins place k text other form m rs h }
     steps_read place k text ((other, Label s l) ∷ rs) le h =
-        let due = StepDue (part side kind n) place in
-        let f = rows_first understood shape due k text other (Label s l) rs h in
-        absurd (line_says understood shape due f.line (Label s l) f.said).says
+        absurd (first_said understood shape (StepDue (part side kind n) place) k text other rs (Label s l) h).1.says
     steps_read place k text ((other, Step q) ∷ rs) le h =
         let due = StepDue (part side kind n) place in
         let f = rows_first understood shape due k text other (Step q) rs h in
@@ -109,18 +122,9 @@ module _ {L : Type 0} (spelled : L → Option (List ℤ)) (understood : List ℤ
     pub labels_read : (s k : ℕ) (text : List ℕ) (rs : Rows L) → s < n → rows understood shape (LabelDue (part side kind n) s) k (pieces 10 text) ≡ Ok rs → LabelsRead spelled side kind n s Then text rs
     labels_read s k text [] low h = absurd (let e = (rows_end understood shape (LabelDue (part side kind n) s) k text h).1 in cc)
     labels_read s k text ((other, Header form m) ∷ rs) low h =
-        let due = LabelDue (part side kind n) s in
-        let f = rows_first understood shape due k text other (Header form m) rs h in
-        let w = line_says understood shape due f.line (Header form m) f.said in
-        absurd (none form (ap (is_due due) (sym w.says.word) ∙ w.may_come))
-      where
-        none : (form : Form) → is_due (LabelDue (part side kind n) s) (header_word form) ≡ true → ⊥
-        none Machine e = cc
-        none Trace e = cc
+        absurd (no_header understood shape (LabelDue (part side kind n) s) k text other rs refl refl form m h)
     labels_read s k text ((other, Step q) ∷ rs) low h =
-        let due = LabelDue (part side kind n) s in
-        let f = rows_first understood shape due k text other (Step q) rs h in
-        absurd (line_says understood shape due f.line (Step q) f.said).says
+        absurd (first_said understood shape (LabelDue (part side kind n) s) k text other rs (Step q) h).1.says
     labels_read s k text ((other, Label m l) ∷ rs) low h =
         let due = LabelDue (part side kind n) s in
         let f = rows_first understood shape due k text other (Label m l) rs h in

@@ -1,8 +1,8 @@
 -- Labels stored at their states, from the first on, are the first of memory. Assumes nothing.
 use Rattle.std.proofs.Common.{◌≡◌, ℕ, ◌+◌, ◌<◌, ◌≤◌, List, [], ◌∷◌, ◌++◌, length, get_or, set, drop, refl, sym, ap, ◌∙◌, arith, append_assoc}
 use Rattle.std.proofs.lemmas.List.{append-nil, drop_more, set_at, length_push}
+use Rattle.model.specs.Memory.{over}
 use Rattle.text.specs.declared.fault.Side.TheVariants.{Right}
-use Rattle.text.specs.Readings.{over}
 use Rattle.text.specs.Filling.{labels_stored}
 use Rattle.text.proofs.SideRows.{right}
 use Rattle.text.proofs.Held.{label_rows, step_rows}

@@ -1,8 +1,8 @@
 -- Texts laid one after the other. Assumes nothing.
 use Rattle.std.proofs.Common.{◌≡◌, ℕ, ◌+◌, ◌≤◌, ◌<◌, List, [], ◌∷◌, ◌++◌, length, take, set, get_or, refl, subst, ap, sym, ◌∙◌, append_assoc, arith, length-append}
 use Rattle.std.proofs.lemmas.List.{set_at, take_more}
+use Rattle.model.specs.Memory.{over}
 use Rattle.text.specs.declared.writing.Pen.{Pen}
-use Rattle.text.specs.Readings.{over}
 use Rattle.text.specs.Laying.{laid, Lays}
 
 laid-append : (memory : List ℕ) (at : ℕ) (xs ys : List ℕ) → laid memory at (xs ++ ys) ≡ laid (laid memory at xs) (at + length xs) ys

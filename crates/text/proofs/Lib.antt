@@ -63,6 +63,6 @@ pub mod FormulaItems
 pub mod FormulaReading
 pub mod FormulaFilling
 pub mod FormulaAnswers
-pub mod Fronts
+pub mod LinesBefore
 pub mod FaultLines
 pub mod FormulaFaultLines

@@ -3,6 +3,7 @@ use Rattle.std.proofs.Common.{◌≡◌, ℕ, ◌+◌, ◌*◌, ◌/◌, ◌%◌
 use Rattle.std.proofs.lemmas.Bool.{cond-true, cond-false, cases_Bool, lt-ltb, le-ltb}
 use Rattle.std.proofs.lemmas.Nat.{div_below, mod_below}
 use Rattle.std.proofs.lemmas.List.Elements.{All-cons}
+use Rattle.model.specs.Machines.{state_bound}
 use Rattle.text.specs.declared.fault.Side.{Side}
 use Rattle.text.specs.declared.word.Word.{Word}
 use Rattle.text.specs.declared.word.Word.TheVariants.{Machine as MachineWord, Label as LabelWord, Step as StepWord}
@@ -15,7 +16,7 @@ use Rattle.text.specs.declared.row.Due.{Due}
 use Rattle.text.specs.declared.row.Due.TheVariants.{Label as LabelDue, Step as StepDue}
 use Rattle.text.specs.Lines.{pieces}
 use Rattle.text.specs.Spelling.{Spelling}
-use Rattle.text.specs.Rows.{part, text_states, knows, is_due, is_machine, row, after, side_at, states_before}
+use Rattle.text.specs.Rows.{part, knows, is_due, is_machine, row, after, side_at, states_before}
 use Rattle.text.specs.Readings.{Rows, rows}
 use Rattle.text.specs.Writings.{form, line, label_line, label_lines, step_line, all_spelled}
 use Rattle.text.proofs.AllThere.{all_there}
@@ -44,7 +45,7 @@ module _ {L : Type 0} (understood : List ℤ → Option L) (shape : Shape) where
       rows_more understood shape due k _ (form word zs) rest r rs (append_assoc (form word zs) (10 ∷ []) rest) (form_says understood shape due word zs few small known may ∙ said) more
       ∙ ap (λ side. Ok ((side, r) ∷ rs)) (form_side due word zs few small)
 
-  module _ (side : Side) (kind : Form) (n : ℕ) (few : n ≤ text_states) (rest : List ℕ) (others : Rows L) (then : (place k : ℕ) → rows understood shape (StepDue (part side kind n) place) k (pieces 10 rest) ≡ Ok others) where
+  module _ (side : Side) (kind : Form) (n : ℕ) (few : n ≤ state_bound) (rest : List ℕ) (others : Rows L) (then : (place k : ℕ) → rows understood shape (StepDue (part side kind n) place) k (pieces 10 rest) ≡ Ok others) where
     -- Steps are read, and what comes after them,
     steps_say : is_machine kind ≡ true → 0 < n → (place k : ℕ) (qs : List ℕ) → Rising place qs (n * n) → rows understood shape (StepDue (part side kind n) place) k (pieces 10 (step_text n qs ++ rest)) ≡ Ok (on side (step_rows qs) ++ others)
     steps_say machine some place k [] h = then place k
@@ -95,7 +96,7 @@ module _ {L : Type 0} (understood : List ℤ → Option L) (shape : Shape) where
           then_more (y ∷ ys) numbers e all more =
               ap (λ x. rows understood shape x (k + 1) (pieces 10 (label_lines (s + 1) numbers ++ (step_text n places ++ rest)))) (cond-true _ _ _ (lt-ltb (s + 1) n (omega arith))) ∙ more (omega arith)
 
-  module _ (spelled : L → Option (List ℤ)) (laws : Spelling spelled understood) (h : Held spelled) (due : Due) (k : ℕ) (side : Side) (here : side_at due MachineWord ≡ side) (few : states_before due + length h.labels ≤ text_states)
+  module _ (spelled : L → Option (List ℤ)) (laws : Spelling spelled understood) (h : Held spelled) (due : Due) (k : ℕ) (side : Side) (here : side_at due MachineWord ≡ side) (few : states_before due + length h.labels ≤ state_bound)
       (known : knows shape (header_word h.form) ≡ true) (may : is_due due (header_word h.form) ≡ true) (on_side : side_at due (header_word h.form) ≡ side) where
     -- A side is read, and what comes after it,
     pub side_says : (rest : List ℕ) (others : Rows L) → ((place k : ℕ) → rows understood shape (StepDue (part side h.form (length h.labels)) place) k (pieces 10 rest) ≡ Ok others) → rows understood shape due k (pieces 10 (text_of h ++ rest)) ≡ Ok (on side (rows_of h) ++ others)

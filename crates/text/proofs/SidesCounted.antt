@@ -1,12 +1,12 @@
 -- In a text of two machines that is read, the header of each side counts its labels, and there are not too many. Assumes nothing.
 use Rattle.std.proofs.Common.{◌≡◌, ℕ, ◌+◌, ◌<◌, ◌≤◌, List, length, Some, Ok, sym, ap, ◌∙◌, arith}
+use Rattle.model.specs.Machines.{state_bound}
 use Rattle.text.specs.declared.fault.Side.TheVariants.{Left, Right}
 use Rattle.text.specs.declared.row.Form.{Form}
 use Rattle.text.specs.declared.row.Form.TheVariants.{Machine}
 use Rattle.text.specs.declared.row.Shape.TheVariants.{Two}
 use Rattle.text.specs.OrderLines.{text_spelled, text_understood}
 use Rattle.text.specs.TextOrderLaws.{text_spelling}
-use Rattle.text.specs.Rows.{text_states}
 use Rattle.text.specs.Readings.{Rows, Said, labels_on, header_on, side_read, two_said}
 use Rattle.text.proofs.Held.{says_header, says_labels}
 use Rattle.text.proofs.SidesRead.{both_are_read}
@@ -18,7 +18,7 @@ pub record Counted {L : Type 0} (rs : Rows L) : Type 0 where
   pub right : header_on Right rs ≡ Some (side_read Machine (length (labels_on Right rs)))
   pub some_left : 0 < length (labels_on Left rs)
   pub some_right : 0 < length (labels_on Right rs)
-  pub few : length (labels_on Left rs) + length (labels_on Right rs) ≤ text_states
+  pub few : length (labels_on Left rs) + length (labels_on Right rs) ≤ state_bound
 
 pub two_counted : (text : List ℕ) (said : Said) → two_said text ≡ Ok said → Counted said.rows
 two_counted text said h =

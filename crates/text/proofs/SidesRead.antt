@@ -1,5 +1,6 @@
 -- A side that is read from its header on. Assumes nothing.
 use Rattle.std.proofs.Common.{◌≡◌, ℕ, ◌+◌, ◌*◌, ◌≤◌, true, false, List, [], ◌∷◌, ◌++◌, length, Option, Ok, ℤ, pos, refl, sym, ap, ◌∙◌, subst, arith, append-nil}
+use Rattle.model.specs.Machines.{state_bound}
 use Rattle.text.specs.declared.fault.Side.{Side}
 use Rattle.text.specs.declared.fault.Side.TheVariants.{Left, Right}
 use Rattle.text.specs.declared.word.Word.{Word}
@@ -12,7 +13,7 @@ use Rattle.text.specs.declared.row.Due.{Due}
 use Rattle.text.specs.declared.row.Due.TheVariants.{Header as HeaderDue, Label as LabelDue, Step as StepDue}
 use Rattle.text.specs.Lines.{pieces}
 use Rattle.text.specs.Spelling.{Spelling}
-use Rattle.text.specs.Rows.{text_states, part, same_side, is_machine, is_due, side_at, states_before}
+use Rattle.text.specs.Rows.{part, same_side, is_machine, is_due, side_at, states_before}
 use Rattle.text.specs.Readings.{Rows, rows}
 use Rattle.text.specs.Writings.{form, label_lines}
 use Rattle.text.proofs.RowByRow.{rows_end, rows_first}
@@ -21,12 +22,12 @@ use Rattle.text.proofs.SideRows.{on, right, rows_on, rows_of_left, rows_of_right
 use Rattle.text.proofs.Held.{Held, rows_of, text_of, text_then}
 use Rattle.text.proofs.Places.{Rising}
 use Rattle.text.proofs.StepTexts.{step_text}
-use Rattle.text.proofs.InOrder.{line_then, labels_read}
+use Rattle.text.proofs.InOrder.{first_said, no_header, line_then, labels_read}
 
 -- A side that is read after so many states, and the text and the rows after it, of which it is said what they are after a side of so many.
 record SideIsRead {L : Type 0} (spelled : L → Option (List ℤ)) (side : Side) (before : ℕ) (Then : ℕ → List ℕ → Rows L → Type 0) (text : List ℕ) (rs : Rows L) : Type 0 where
   held : Held spelled
-  few : before + length held.labels ≤ text_states
+  few : before + length held.labels ≤ state_bound
   rest : List ℕ
   others : Rows L
   left_trace : is_machine held.form ≡ false → same_side Left side ≡ true
@@ -37,7 +38,7 @@ record SideIsRead {L : Type 0} (spelled : L → Option (List ℤ)) (side : Side)
 -- A machine on the right that is read to the end of the text, after so many states.
 record LastRead {L : Type 0} (spelled : L → Option (List ℤ)) (before : ℕ) (text : List ℕ) (rs : Rows L) : Type 0 where
   held : Held spelled
-  few : before + length held.labels ≤ text_states
+  few : before + length held.labels ≤ state_bound
   machine : held.form ≡ Machine
   is : text ≡ text_of held
   rows_are : rs ≡ right (rows_of held)
@@ -53,7 +54,7 @@ pub record AloneRead {L : Type 0} (spelled : L → Option (List ℤ)) (text : Li
 pub record BothRead {L : Type 0} (spelled : L → Option (List ℤ)) (text : List ℕ) (rs : Rows L) : Type 0 where
   pub left : Held spelled
   pub right : Held spelled
-  pub few : length left.labels + length right.labels ≤ text_states
+  pub few : length left.labels + length right.labels ≤ state_bound
   pub machine : right.form ≡ Machine
   pub is : text ≡ text_of left ++ text_of right
   pub on_left : rows_on Left rs ≡ rows_of left
@@ -120,25 +121,16 @@ module _ {L : Type 0} (spelled : L → Option (List ℤ)) (understood : List ℤ
     side_from_header before k text [] h = absurd (let e = (rows_end understood shape (HeaderDue side before) k text h).1 in cc)
     side_from_header before k text ((other, Header kind n) ∷ rs) h = side_is_read (HeaderDue side before) k text other kind n rs refl h
     side_from_header before k text ((other, Label s l) ∷ rs) h =
-        let f = rows_first understood shape (HeaderDue side before) k text other (Label s l) rs h in
-        absurd (line_says understood shape (HeaderDue side before) f.line (Label s l) f.said).says
+        absurd (first_said understood shape (HeaderDue side before) k text other rs (Label s l) h).1.says
     side_from_header before k text ((other, Step q) ∷ rs) h =
-        let f = rows_first understood shape (HeaderDue side before) k text other (Step q) rs h in
-        absurd (line_says understood shape (HeaderDue side before) f.line (Step q) f.said).says
+        absurd (first_said understood shape (HeaderDue side before) k text other rs (Step q) h).1.says
 
   right_ends : (kind : Form) (n place k : ℕ) (text : List ℕ) → rows understood shape (StepDue (part Right kind n) place) k (pieces 10 text) ≡ Ok [] → Nothing {L = L} n text []
   right_ends kind n place k text h = ((rows_end understood shape (StepDue (part Right kind n) place) k text h).0, refl)
 
   nothing_begins : (kind : Form) (n place k : ℕ) (text : List ℕ) (other : Side) (form : Form) (m : ℕ) (rs : Rows L) → rows understood shape (StepDue (part Right kind n) place) k (pieces 10 text) ≡ Ok ((other, Header form m) ∷ rs) → Nothing n text ((other, Header form m) ∷ rs)
   nothing_begins kind n place k text other form m rs h =
-      let due = StepDue (part Right kind n) place in
-      let f = rows_first understood shape due k text other (Header form m) rs h in
-      let w = line_says understood shape due f.line (Header form m) f.said in
-      absurd (none form (ap (is_due due) (sym w.says.word) ∙ w.may_come))
-    where
-      none : (form : Form) → is_due (StepDue (part Right kind n) place) (header_word form) ≡ true → ⊥
-      none Machine e = cc
-      none Trace e = cc
+      absurd (no_header understood shape (StepDue (part Right kind n) place) k text other rs refl refl form m h)
 
   right_is_read : (before : ℕ) (text : List ℕ) (rs : Rows L) → SideIsRead spelled Right before Nothing text rs → LastRead spelled before text rs
   right_is_read before text rs r = record {

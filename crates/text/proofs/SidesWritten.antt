@@ -1,10 +1,10 @@
 -- The text of a machine, or of a trace, is that of its labels and of the places of its steps, and these say the same machine. Assumes nothing.
 use Rattle.std.proofs.Common.{◌≡◌, ℕ, ◌*◌, ◌<◌, ◌≤◌, false, List, [], ◌∷◌, ◌++◌, Option, Some, ℤ, pos, refl, sym, ap, subst, append-nil, arith}
-use Rattle.model.specs.Machines.{Meaning, states}
+use Rattle.model.specs.Machines.{Meaning, states, state_bound}
 use Rattle.text.specs.declared.row.Form.{Form}
 use Rattle.text.specs.declared.row.Form.TheVariants.{Machine, Trace}
 use Rattle.text.specs.declared.fault.Side.{Side}
-use Rattle.text.specs.Rows.{text_states, is_machine}
+use Rattle.text.specs.Rows.{is_machine}
 use Rattle.text.specs.Readings.{grid, Rows}
 use Rattle.text.specs.Writings.{line, header_line, label_lines, all_spelled, side_lines}
 use Rattle.text.specs.Statements.{machine_of, machine_on, SameMachine, HasForm}
@@ -31,7 +31,7 @@ pub trace_bare : {L : Type 0} (form : Form) (m : Meaning L) → is_machine form 
 trace_bare Machine m e = absurd (cc)
 trace_bare Trace m e = refl
 
-module _ {L : Type 0} (spelled : L → Option (List ℤ)) (form : Form) (m : Meaning L) (some : 0 < states m) (few : states m ≤ text_states) (numbers : List (List ℤ)) (e : all_spelled spelled m.labels ≡ Some numbers) where
+module _ {L : Type 0} (spelled : L → Option (List ℤ)) (form : Form) (m : Meaning L) (some : 0 < states m) (few : states m ≤ state_bound) (numbers : List (List ℤ)) (e : all_spelled spelled m.labels ≡ Some numbers) where
   abbrev pub written_held : Held spelled
   written_held = record {
     form = form;

@@ -1,10 +1,11 @@
 -- What is stored of the rows of a side is what they say. Assumes nothing.
 use Rattle.std.proofs.Common.{◌≡◌, ℕ, ◌≤◌, List, [], length, Option, ℤ, refl, sym, ap, ◌∙◌, arith}
 use Rattle.std.specs.Prelude.{unwrap_or}
+use Rattle.model.specs.Memory.{over}
 use Rattle.text.specs.declared.fault.Side.{Side}
 use Rattle.text.specs.declared.fault.Side.TheVariants.{Right}
 use Rattle.text.specs.Rows.{label_places}
-use Rattle.text.specs.Readings.{Rows, labels_on, places_on, no_side, side_said, steps_after, over, SideMemory, side_memory, filled}
+use Rattle.text.specs.Readings.{Rows, labels_on, places_on, no_side, side_said, steps_after, SideMemory, side_memory, filled}
 use Rattle.text.specs.Filling.{labels_stored, steps_stored, stored}
 use Rattle.text.proofs.SideRows.{rows_on, right, labels_stored_alone, steps_stored_alone}
 use Rattle.text.proofs.Held.{Held, rows_of, says_header, says_labels, says_places}

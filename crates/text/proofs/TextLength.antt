@@ -3,7 +3,7 @@ use Rattle.std.proofs.Common.{◌≡◌, ℕ, ◌+◌, ◌*◌, ◌≤◌, List,
 use Rattle.std.proofs.lemmas.Fmt.{length-decimal-le}
 use Rattle.model.specs.declared.flags.FlagSet.{FlagSet}
 use Rattle.model.specs.declared.band.Span.{Span}
-use Rattle.model.specs.Machines.{Meaning, states}
+use Rattle.model.specs.Machines.{Meaning, states, state_bound}
 use Rattle.text.specs.declared.order.Base.TheVariants.{Flags, Band}
 use Rattle.text.specs.declared.order.TextOrder.{TextOrder}
 use Rattle.text.specs.declared.order.TextOrder.TheVariants.{Plain, Turned, Exact, Both}
@@ -12,7 +12,6 @@ use Rattle.text.specs.declared.row.Form.{Form}
 use Rattle.text.specs.declared.row.Form.TheVariants.{Machine, Trace}
 use Rattle.text.specs.Spelling.{Spelling}
 use Rattle.text.specs.OrderLines.{text_spelled}
-use Rattle.text.specs.Rows.{text_states}
 use Rattle.text.specs.TextOrderLaws.{text_spelling}
 use Rattle.text.specs.Readings.{text_bound}
 use Rattle.text.specs.Writings.{line, header_line, label_lines, step_lines, all_spelled, machine_lines, side_lines, order_line, two_lines}
@@ -31,7 +30,7 @@ order_length (Exact Flags) = omega arith
 order_length (Exact Band) = omega arith
 order_length Both = omega arith
 
-module _ {L : Type 0} (spelled : L → Option (List ℤ)) (understood : List ℤ → Option L) (laws : Spelling spelled understood) (m : Meaning L) (numbers : List (List ℤ)) (few : states m ≤ text_states) (e : all_spelled spelled m.labels ≡ Some numbers) where
+module _ {L : Type 0} (spelled : L → Option (List ℤ)) (understood : List ℤ → Option L) (laws : Spelling spelled understood) (m : Meaning L) (numbers : List (List ℤ)) (few : states m ≤ state_bound) (e : all_spelled spelled m.labels ≡ Some numbers) where
   pub machine_length : length (machine_lines m numbers) ≤ 13 + 890 * states m
   machine_length =
       let n = states m in
@@ -54,7 +53,7 @@ module _ {L : Type 0} (spelled : L → Option (List ℤ)) (understood : List ℤ
         labels_length spelled understood laws 0 m.labels numbers (omega arith) e,
       )
 
-pub two_length : (order : TextOrder) (form : Form) (left right : Meaning (FlagSet × Span)) (left_numbers right_numbers : List (List ℤ)) → states left + states right ≤ text_states →
+pub two_length : (order : TextOrder) (form : Form) (left right : Meaning (FlagSet × Span)) (left_numbers right_numbers : List (List ℤ)) → states left + states right ≤ state_bound →
     all_spelled (text_spelled order) left.labels ≡ Some left_numbers → all_spelled (text_spelled order) right.labels ≡ Some right_numbers → length (two_lines order form left left_numbers right right_numbers) ≤ text_bound
 two_length order form left right left_numbers right_numbers few e f =
     omega (

@@ -1,12 +1,12 @@
 -- A text that is read is that of the machine that it says and of no other, and the text of a machine is read. Assumes nothing.
 use Rattle.std.proofs.Common.{◌≡◌, ℕ, ◌<◌, ◌≤◌, [], List, length, Option, Ok, ℤ, refl, sym, ap, ◌∙◌, unwrap_or, arith}
+use Rattle.model.specs.Machines.{state_bound}
 use Rattle.text.specs.declared.fault.Side.TheVariants.{Right}
 use Rattle.text.specs.declared.row.Form.TheVariants.{Machine}
 use Rattle.text.specs.declared.row.Shape.TheVariants.{Alone}
 use Rattle.text.specs.declared.row.Due.TheVariants.{Header as HeaderDue}
 use Rattle.text.specs.Spelling.{Spelling}
 use Rattle.text.specs.Readings.{Rows, labels_on, side_read, no_side, alone_said}
-use Rattle.text.specs.Rows.{text_states}
 use Rattle.text.specs.Writings.{all_spelled}
 use Rattle.text.specs.Statements.{machine_on, ReadIsWritten, WrittenIsRead, SameText}
 use Rattle.text.proofs.SideRows.{right, rows_of_right}
@@ -23,7 +23,7 @@ module _ {L : Type 0} (spelled : L → Option (List ℤ)) (understood : List ℤ
   pub record AloneTold (text : List ℕ) (rs : Rows L) : Type 0 where
     pub told : SideTold spelled Right Machine rs text
     pub some : 0 < length (labels_on Right rs)
-    pub few : length (labels_on Right rs) ≤ text_states
+    pub few : length (labels_on Right rs) ≤ state_bound
 
   pub alone_told : (text : List ℕ) (rs : Rows L) → alone_said understood text ≡ Ok rs → AloneTold text rs
   alone_told text rs h =

@@ -1,12 +1,13 @@
 -- Memory as the rows of a side are stored into it, one after the other. Assumes nothing.
 use Rattle.std.specs.Prelude.{◌≡◌, ℕ, ◌*◌, cond, List, [], ◌∷◌, replicate, slice_set}
+use Rattle.model.specs.Memory.{over}
 use Rattle.text.specs.declared.fault.Side.{Side}
 use Rattle.text.specs.declared.row.Form.TheVariants.{Machine, Trace}
 use Rattle.text.specs.declared.row.Row.{Row}
 use Rattle.text.specs.declared.row.Row.TheVariants.{Header, Label, Step}
 use Rattle.text.specs.declared.lent.Lent.{Lent}
 use Rattle.text.specs.Rows.{same_side}
-use Rattle.text.specs.Readings.{Rows, over, SideMemory, side_memory}
+use Rattle.text.specs.Readings.{Rows, SideMemory, side_memory}
 
 module _ {L : Type 0} where
   -- A label is stored at its state.

@@ -65,7 +65,8 @@ pub record Reads (bytes rest : List ℕ) (before after : List (Line (List ℕ)))
 abbrev pub NoFront : ℕ → List ℕ → List ℕ → Type 0
 NoFront depth bytes next = (F : Formula (List ℕ)) (rest : List ℕ) → nesting F ≤ depth → Front bytes F (next ++ rest) → ⊥
 
--- There is room for the lines of what stands in front: a formula has 13 bytes for two lines, but for one byte.
+-- Room for the lines of what stands in front: 13 times a formula's lines are at most twice its bytes and 1, and 1040 is 13 times
+-- the places.
 abbrev pub HasRoom : List (Line (Bor (List ℕ))) → List ℕ → Type 0
 HasRoom lines bytes = 13 * length lines + 2 * length bytes ≤ 1040
 

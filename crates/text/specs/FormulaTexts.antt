@@ -1,6 +1,7 @@
 -- Formulas in texts: how one is written, its numbered lines, and what reading one leaves in memory. Assumes nothing.
 use Rattle.std.specs.Prelude.{◌≡◌, ℕ, ◌+◌, ◌-◌, max, Bool, cond, ◌||◌, List, [], ◌∷◌, ◌++◌, length, Option, Some, None, option_map, Result, Ok, Err, MatchResult, nat_lt, ℤ, bytes_eq, codes}
 use Rattle.std.specs.Result.{result_map_both}
+use Rattle.model.specs.Memory.{over}
 use Rattle.until.specs.Formulas.{Formula, truth, at, and, until}
 use Rattle.until.specs.declared.formula.Line.{Line}
 use Rattle.until.specs.declared.formula.Line.TheVariants.{True, At, And, Until}
@@ -10,7 +11,7 @@ use Rattle.text.specs.declared.fault.Refused.{Refused}
 use Rattle.text.specs.Faults.{refused_at}
 use Rattle.text.specs.Lines.{newline, pieces, sort_of, depth_after, is_line, first_word}
 use Rattle.text.specs.Numbers.{both, items}
-use Rattle.text.specs.Readings.{over, unless_refused}
+use Rattle.text.specs.Readings.{unless_refused}
 
 -- How a formula is written, where its labels are written so.
 abbrev pub letters_by : {L : Type 0} → (L → List ℕ) → Formula L → List ℕ
@@ -72,16 +73,16 @@ line_checked line =
     cond (is_line line) (cond (nat_lt nesting_bound (deepest 0 line)) (Err TooDeep)
     (cond (is_formula_word (first_word line)) (Ok tt) (Err UnknownWord))) (Err NoForm)
 
--- A line is refused for a fault at line 1.
-abbrev pub first_line : List ℕ → Result (Unit {0}) Fault → Result (List ℕ) (Refused ℕ)
-first_line line checked = result_map_both (λ _. line) (λ fault. refused_at fault 1) checked
+-- The line, unless it has a fault, which gains its place: line 1.
+abbrev pub placed_first : List ℕ → Result (Unit {0}) Fault → Result (List ℕ) (Refused ℕ)
+placed_first line checked = result_map_both (λ _. line) (λ fault. refused_at fault 1) checked
 
 -- The line whose items are looked at, or why a text in these pieces is refused before.
 abbrev pub line_in : List (List ℕ) → Result (List ℕ) (Refused ℕ)
 line_in [] = Err (refused_at OutOfOrder 1)
 line_in ([] ∷ []) = Err (refused_at OutOfOrder 1)
 line_in ((b ∷ bs) ∷ []) = Err (refused_at NoForm 1)
-line_in (line ∷ piece ∷ more) = first_line line (line_checked line)
+line_in (line ∷ piece ∷ more) = placed_first line (line_checked line)
 
 module _ {L : Type 0} (understood : List ℤ → Option L) where
   -- The label that numbers write. In a formula they are at least one.
@@ -101,8 +102,8 @@ module _ {L : Type 0} (understood : List ℤ → Option L) where
   alone (Some F) ps = Err (refused_at OutOfOrder 2)
 
   -- What a text says, or why it is refused where there is memory for so many lines.
-  abbrev pub Says : List ℕ → ℕ → Result (Formula L) (Refused ℕ) → Type 0
-  Says text room said =
+  abbrev pub FormulaSaid : List ℕ → ℕ → Result (Formula L) (Refused ℕ) → Type 0
+  FormulaSaid text room said =
       MatchResult (unless_refused text 1 (nat_lt room formula_places) (line_in (pieces newline text)))
       (λ line. (F : Option (Formula L)) × Writes line F × (said ≡ alone F (pieces newline text)))
       (λ e. said ≡ Err e)
@@ -110,9 +111,10 @@ module _ {L : Type 0} (understood : List ℤ → Option L) where
   -- Reading a formula answers how many lines it has, which memory then begins with; a refusal leaves memory.
   pub record ReadsFormula (text : List ℕ) (memory : List (Line L)) (r : Result ℕ (Refused ℕ)) (after : List (Line L)) : Type 0 where
     pub said : Result (Formula L) (Refused ℕ)
-    pub says : Says text (length memory) said
+    pub says : FormulaSaid text (length memory) said
     pub answers : MatchResult said (λ F. (r ≡ Ok (size F)) × (after ≡ over (flat 0 F) memory)) (λ e. (r ≡ Err e) × (after ≡ memory))
 
   -- No text says two things, so that reading one has one answer.
   abbrev pub SaysOne : Type 0
-  SaysOne = (text : List ℕ) (room : ℕ) (s t : Result (Formula L) (Refused ℕ)) → Says text room s → Says text room t → s ≡ t
+  SaysOne = (text : List ℕ) (room : ℕ) (s t : Result (Formula L) (Refused ℕ)) →
+      FormulaSaid text room s → FormulaSaid text room t → s ≡ t

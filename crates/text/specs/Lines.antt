@@ -31,7 +31,8 @@ is_between low high b = nat_le low b && nat_le b high
 -- What a byte is for a line: ( and ) and a space, a letter from a to z, a digit or a minus, or none of these.
 abbrev pub sort_of : ℕ → Sort
 sort_of b =
-    cond (b == 40) Open (cond (b == 41) Close (cond (b == space) Space (cond (is_between 97 122 b) Letter (cond (b == 45 || is_between 48 57 b) Figure Foreign))))
+    cond (b == 40) Open (cond (b == 41) Close (cond (b == space) Space
+    (cond (is_between 97 122 b) Letter (cond (b == 45 || is_between 48 57 b) Figure Foreign))))
 
 -- A byte of a word.
 abbrev pub is_word : Sort → Bool

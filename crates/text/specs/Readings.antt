@@ -1,8 +1,9 @@
 -- What texts say, and what reading one leaves in memory. Assumes nothing.
-use Rattle.std.specs.Prelude.{◌≡◌, ℕ, ◌+◌, ◌*◌, Bool, cond, ◌||◌, List, [], ◌∷◌, ◌++◌, length, drop, replicate, slice_set, Option, Some, None, Result, Ok, Err, MatchResult, unwrap_or, ok_or, nat_lt, ℤ}
+use Rattle.std.specs.Prelude.{◌≡◌, ℕ, ◌+◌, ◌*◌, Bool, cond, ◌||◌, List, [], ◌∷◌, length, drop, replicate, slice_set, Option, Some, None, Result, Ok, Err, MatchResult, unwrap_or, ok_or, nat_lt, ℤ}
 use Rattle.std.specs.Result.{result_map_both}
 use Rattle.model.specs.declared.flags.FlagSet.{FlagSet}
 use Rattle.model.specs.declared.band.Span.{Span}
+use Rattle.model.specs.Memory.{over}
 use Rattle.text.specs.declared.fault.Fault.{Fault}
 use Rattle.text.specs.declared.fault.Fault.TheVariants.{NoForm, UnknownWord, WrongItems, OutOfOrder, ShortMemory, TooLong}
 use Rattle.text.specs.declared.fault.Side.{Side}
@@ -60,7 +61,8 @@ module _ {L : Type 0} where
   placed side k row = result_map_both (λ r. r) (λ fault. refused fault (Some (place side k))) row
 
   -- A row comes before those of the lines after it.
-  abbrev pub then_rows : Side → Result (Row L) (Refused Place) → (Row L → Result (Rows L) (Refused Place)) → Result (Rows L) (Refused Place)
+  abbrev pub then_rows : Side → Result (Row L) (Refused Place) → (Row L → Result (Rows L) (Refused Place)) →
+      Result (Rows L) (Refused Place)
   then_rows side (Err e) rest = Err e
   then_rows side (Ok r) rest = also_row (side, r) (rest r)
 
@@ -89,7 +91,8 @@ module _ {L : Type 0} (understood : List ℤ → Option L) (shape : Shape) where
   rows due k [] = ended (side_of due) k (end_fault due [])
   rows due k (last ∷ []) = ended (side_of due) k (end_fault due last)
   rows due k (line ∷ piece ∷ more) =
-      then_rows (side_of_line due line) (placed (side_of_line due line) k (row_of understood shape due line)) (λ r. rows (after due r) (k + 1) (piece ∷ more))
+      then_rows (side_of_line due line) (placed (side_of_line due line) k (row_of understood shape due line))
+      (λ r. rows (after due r) (k + 1) (piece ∷ more))
 
 abbrev pub order_by : List ℕ → Option Word → Result TextOrder Fault
 order_by line None = Err UnknownWord
@@ -136,10 +139,6 @@ marked_at bytes (q ∷ qs) = marked_at (slice_set bytes q 1) qs
 abbrev pub grid : ℕ → List ℕ → List ℕ
 grid n places = marked_at (replicate (n * n) 0) places
 
--- The first places of memory hold these things, and the rest is as it was.
-abbrev pub over : {A : Type 0} → List A → List A → List A
-over front memory = front ++ drop (length front) memory
-
 -- No side: what is said of one where there are no rows.
 abbrev pub no_side : SideRead
 no_side = side_read Machine 0
@@ -174,7 +173,8 @@ module _ {L : Type 0} where
 
   -- What the rows of a side say, over memory.
   abbrev pub filled : Side → Rows L → SideMemory L → SideMemory L
-  filled side rs memory = side_memory (over (labels_on side rs) memory.labels) (steps_after (side_said side rs) (places_on side rs) memory.steps)
+  filled side rs memory =
+      side_memory (over (labels_on side rs) memory.labels) (steps_after (side_said side rs) (places_on side rs) memory.steps)
 
   -- Reading a machine alone answers its count, and fills memory; a refusal leaves it.
   abbrev pub ReadsAlone : (List ℤ → Option L) → List ℕ → SideMemory L → Result ℕ (Refused ℕ) → SideMemory L → Type 0
@@ -191,7 +191,8 @@ two_read said = record {
 }
 
 -- Reading two machines answers the order, what the left is and both counts, and fills the memory of both sides.
-abbrev pub ReadsTwo : List ℕ → SideMemory (FlagSet × Span) → SideMemory (FlagSet × Span) → Result TwoRead (Refused Place) → SideMemory (FlagSet × Span) → SideMemory (FlagSet × Span) → Type 0
+abbrev pub ReadsTwo : List ℕ → SideMemory (FlagSet × Span) → SideMemory (FlagSet × Span) → Result TwoRead (Refused Place) →
+    SideMemory (FlagSet × Span) → SideMemory (FlagSet × Span) → Type 0
 ReadsTwo text left right r left_after right_after =
     MatchResult (unless_refused text (place Order 1) (is_short left || is_short right) (two_said text))
     (λ said. (r ≡ Ok (two_read said)) × (left_after ≡ filled Left said.rows left) × (right_after ≡ filled Right said.rows right))

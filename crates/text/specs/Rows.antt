@@ -1,6 +1,7 @@
 -- What the lines of a machine's text say, and in which order they come. Assumes nothing.
 use Rattle.std.specs.Prelude.{ℕ, ◌+◌, ◌*◌, Bool, true, false, cond, ◌&&◌, ◌||◌, List, [], ◌∷◌, drop, Option, Some, None, Result, Ok, Err, ◌==◌, nat_le, nat_lt, ℤ, pos, negsuc}
 use Rattle.std.specs.Option.{option_map_or}
+use Rattle.model.specs.Machines.{state_bound}
 use Rattle.text.specs.declared.fault.Fault.{Fault}
 use Rattle.text.specs.declared.fault.Fault.TheVariants.{NoForm, UnknownWord, WrongItems, OutOfOrder, WrongCount}
 use Rattle.text.specs.declared.fault.Side.{Side}
@@ -20,16 +21,12 @@ use Rattle.text.specs.Lines.{is_line, words, first_word}
 use Rattle.text.specs.Numbers.{numbers}
 use Rattle.text.specs.Words.{word_of}
 
--- The most states that a text may have, both sides together.
-abbrev pub text_states : ℕ
-text_states = 64
-
 -- The labels and the step bytes for which a side lends memory.
 abbrev pub label_places : ℕ
-label_places = 64
+label_places = state_bound
 
 abbrev pub step_places : ℕ
-step_places = 4096
+step_places = state_bound * state_bound
 
 -- The largest number of a state, and the largest count, that is read.
 abbrev pub largest_number : ℕ
@@ -91,7 +88,7 @@ module _ {L : Type 0} where
   -- A header's count is not 0, and the text has not too many states with it.
   abbrev pub counted : Due → Form → Option ℕ → Result (Row L) Fault
   counted due form None = Err WrongItems
-  counted due form (Some n) = cond (n == 0 || nat_lt text_states (states_before due + n)) (Err WrongCount) (Ok (Header form n))
+  counted due form (Some n) = cond (n == 0 || nat_lt state_bound (states_before due + n)) (Err WrongCount) (Ok (Header form n))
 
   abbrev pub header : Due → Form → List ℤ → Result (Row L) Fault
   header due form [] = Err WrongItems

@@ -2,14 +2,13 @@
 use Rattle.std.specs.Prelude.{◌≡◌, ℕ, ◌+◌, ◌<◌, ◌≤◌, List, length, Option, Some, Ok, ℤ}
 use Rattle.model.specs.declared.flags.FlagSet.{FlagSet}
 use Rattle.model.specs.declared.band.Span.{Span}
-use Rattle.model.specs.Machines.{Meaning, Bounded, states, table_meaning, trace_meaning}
+use Rattle.model.specs.Machines.{Meaning, Bounded, states, table_meaning, trace_meaning, state_bound}
 use Rattle.text.specs.declared.fault.Side.{Side}
 use Rattle.text.specs.declared.fault.Side.TheVariants.{Left, Right}
 use Rattle.text.specs.declared.row.Form.{Form}
 use Rattle.text.specs.declared.row.Form.TheVariants.{Machine, Trace}
 use Rattle.text.specs.declared.order.TextOrder.{TextOrder}
 use Rattle.text.specs.OrderLines.{text_spelled}
-use Rattle.text.specs.Rows.{text_states}
 use Rattle.text.specs.Readings.{Rows, Said, alone_said, two_said, labels_on, places_on, header_on, side_said, side_read, grid, text_bound}
 use Rattle.text.specs.Writings.{all_spelled, written, two_lines}
 
@@ -88,7 +87,7 @@ pub record SaysSameTwo (order : TextOrder) (form : Form) (left right : Meaning (
 abbrev pub TwoIsRead : Type 0
 TwoIsRead =
     (order : TextOrder) (form : Form) (left right : Meaning (FlagSet × Span)) → HasForm form left → Bounded right →
-    0 < states left → 0 < states right → states left + states right ≤ text_states →
+    0 < states left → 0 < states right → states left + states right ≤ state_bound →
     (left_numbers right_numbers : List (List ℤ)) → all_spelled (text_spelled order) left.labels ≡ Some left_numbers →
     all_spelled (text_spelled order) right.labels ≡ Some right_numbers →
     SaysSameTwo order form left right (two_lines order form left left_numbers right right_numbers)

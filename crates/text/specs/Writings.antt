@@ -1,6 +1,7 @@
 -- How machines are written. Assumes nothing.
-use Rattle.std.specs.Prelude.{◌≡◌, ℕ, zero, suc, ◌+◌, Bool, cond, ◌||◌, List, [], ◌∷◌, ◌++◌, length, Option, Some, None, Result, Ok, Err, MatchResult, ◌==◌, nat_lt, ℤ, pos, codes}
-use Rattle.model.specs.Machines.{Meaning, states}
+use Rattle.std.specs.Prelude.{◌≡◌, ℕ, zero, suc, ◌+◌, Bool, cond, List, [], ◌∷◌, ◌++◌, length, Option, Some, None, Result, Ok, Err, MatchResult, nat_lt, ℤ, pos, codes}
+use Rattle.model.specs.Machines.{Meaning, states, is_sized}
+use Rattle.model.specs.Memory.{over}
 use Rattle.text.specs.declared.fault.Fault.{Fault}
 use Rattle.text.specs.declared.fault.Fault.TheVariants.{WrongItems, WrongCount, ShortMemory}
 use Rattle.text.specs.declared.word.Word.{Word}
@@ -11,8 +12,6 @@ use Rattle.text.specs.declared.order.TextOrder.{TextOrder}
 use Rattle.text.specs.Numbers.{both, items}
 use Rattle.text.specs.Words.{letters_of}
 use Rattle.text.specs.OrderLines.{order_letters}
-use Rattle.text.specs.Rows.{text_states}
-use Rattle.text.specs.Readings.{over}
 
 -- A word and numbers in brackets.
 abbrev pub form : Word → List ℤ → List ℕ
@@ -72,16 +71,13 @@ abbrev pub two_lines : {L : Type 0} → TextOrder → Form → Meaning L → Lis
 two_lines order form left left_labels right right_labels =
     order_line order ++ (side_lines form left left_labels ++ machine_lines right right_labels)
 
-abbrev pub is_miscounted : {L : Type 0} → Meaning L → Bool
-is_miscounted m = states m == 0 || nat_lt text_states (states m)
-
 abbrev pub fitting : ℕ → List ℕ → Result (List ℕ) Fault
 fitting room text = cond (nat_lt room (length text)) (Err ShortMemory) (Ok text)
 
 -- The text of a machine whose labels are written by these numbers, or why it is not written.
 abbrev pub written_by : {L : Type 0} → Meaning L → Option (List (List ℤ)) → ℕ → Result (List ℕ) Fault
 written_by m None room = Err WrongItems
-written_by m (Some labels) room = cond (is_miscounted m) (Err WrongCount) (fitting room (machine_lines m labels))
+written_by m (Some labels) room = cond (is_sized (states m)) (fitting room (machine_lines m labels)) (Err WrongCount)
 
 -- The text of a machine for so much room, or why it is not written: a label that cannot be, a count, or the room.
 abbrev pub written : {L : Type 0} → (L → Option (List ℤ)) → Meaning L → ℕ → Result (List ℕ) Fault

@@ -1,17 +1,19 @@
 //! Memory lent for a side of a text.
 ghost use Rattle.std.specs.Prelude.{◌≡◌, ◌≤◌, length, replicate};
+ghost use Rattle.model.specs.Memory.{over};
 ghost use Rattle.text.specs.Rows.{label_places, step_places};
 ghost use Rattle.text.specs.InOrder.{Storable};
-ghost use Rattle.text.specs.Readings.{is_short, over};
+ghost use Rattle.text.specs.Readings.{is_short};
 ghost use Rattle.text.specs.Filling.{held, with_row, Keeps};
 
-use crate::row::{Form, Row, TEXT_STATES};
+use crate::row::{Form, Row};
+use model::STATE_BOUND;
 
 /// The labels for which a side lends memory.
-pub const LABEL_PLACES: usize = TEXT_STATES;
+pub const LABEL_PLACES: usize = STATE_BOUND;
 
 /// The step bytes for which a side lends memory.
-pub const STEP_PLACES: usize = TEXT_STATES * TEXT_STATES;
+pub const STEP_PLACES: usize = STATE_BOUND * STATE_BOUND;
 
 /// A place for each label of a side, and a byte for each pair of its states.
 #[derive(Drop)]

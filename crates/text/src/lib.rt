@@ -28,5 +28,5 @@ pub use order::{Base, TextOrder};
 pub use question::{Parts, cut_question};
 pub use reading::{SideRead, TEXT_BOUND, TwoRead, read_machine, read_two};
 pub use reading_formula::{formula_text_says_one, read_formula};
-pub use row::{Form, TEXT_STATES};
+pub use row::Form;
 pub use writing::write_machine;

@@ -10,8 +10,9 @@ use crate::cut::cut;
 use crate::fault::Fault;
 use crate::label::Spelled;
 use crate::number::numbers;
-use crate::row::{Due, Form, Part, Row, Shape, TEXT_STATES};
+use crate::row::{Due, Form, Part, Row, Shape};
 use crate::word::Word;
+use model::STATE_BOUND;
 
 /// What stands between the first bracket of a line and the last.
 pub(crate) fn inside(line: &[u8]) -> &[u8]
@@ -49,7 +50,7 @@ fn header<L>(due: Due, form: Form, numbers: &[i64]) -> Result<Row<L>, Fault>
         return Err(Fault::WrongItems);
     };
     let count = state_number(*count).ok_or(Fault::WrongItems)?;
-    if count == 0 || due.states_before() + count > TEXT_STATES {
+    if count == 0 || due.states_before() + count > STATE_BOUND {
         return Err(Fault::WrongCount);
     }
     Ok(Row::Header(form, count))

@@ -1,8 +1,8 @@
 //! A formula read from a text.
 ghost use Rattle.std.specs.Prelude.{◌≡◌, ◌-◌, ◌≤◌, length, take, Some, is_some, IsSome, IfSome, IfOk, IsTrue};
+ghost use Rattle.model.specs.Memory.{over};
 ghost use Rattle.until.specs.Lines.{denoted, all_name_earlier};
 ghost use Rattle.text.specs.Lines.{newline, pieces, first_piece, first_word};
-ghost use Rattle.text.specs.Readings.{over};
 ghost use Rattle.text.specs.FormulaTexts.{is_formula_word, deepest, line_checked, Writes, ReadsFormula, SaysOne};
 ghost use Rattle.text.specs.FormulaParts.{line_with, shown, line_of, lines_of, ReadsItems, ReadsLine, ReadsText};
 

@@ -6,9 +6,6 @@ ghost use Rattle.text.specs.Rows.{knows, is_due, side_of, side_at, side_by, stat
 use crate::fault::Side;
 use crate::word::Word;
 
-/// The most states that a text may have, both sides together.
-pub const TEXT_STATES: usize = 64;
-
 /// What a text holds: two machines after an order, or a machine alone.
 #[derive(Clone, Copy, PartialEq, Eq, Debug)]
 pub(crate) enum Shape {

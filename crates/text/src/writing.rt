@@ -7,10 +7,9 @@ ghost use Rattle.text.specs.Laying.{laid, Lays, LaysIfSpelled};
 
 use crate::fault::Fault;
 use crate::label::Spelled;
-use crate::row::TEXT_STATES;
 use crate::word::Word;
 use itoa::Buffer;
-use model::Machine;
+use model::{Machine, is_sized};
 
 /// Memory into which a text is laid, as far as it goes.
 #[derive(Drop)]
@@ -145,7 +144,7 @@ pub fn write_machine<M: Machine, O: Spelled<Label = M::Label>>(
 {
     // Into no memory, a text is only measured.
     let size = lay_machine(order, machine, &mut []).ok_or(Fault::WrongItems)?;
-    if !(1..=TEXT_STATES).contains(&machine.count()) {
+    if !is_sized(machine.count()) {
         return Err(Fault::WrongCount);
     }
     if out.len() < size {

@@ -1,4 +1,4 @@
-use Rattle.std.proofs.Common.{sym, ◌∙◌, arith}
+use Rattle.std.proofs.Common.{arith}
 use Rattle.text.proofs.FormulaFilling.{there_at, one_written, rest_kept}
 use Rattle.text.proofs.reading_formula.write_lines.Goals as goal
 
@@ -9,7 +9,8 @@ unwrap-requires g c =
 pub loop-k-preserved : goal.loop-k-preserved
 loop-k-preserved g c =
     let understood = g.O.Spelled.understood c.args.order.now in
+    let read = rw c.with_label.ensures at c.unwrap.ensures in
     record {
-      written = one_written understood c.args.read.now _ c.loop-k.k c.loop-k.lines c.unwrap.result c.loop-k-test.true (omega (arith, c.loop-k.auto.lines, c.requires.room)) (sym c.with_label.ensures ∙ c.unwrap.ensures) c.loop-k.invariant.written;
+      written = one_written understood c.args.read.now _ c.loop-k.k c.loop-k.lines c.unwrap.result c.loop-k-test.true (omega (arith, c.loop-k.auto.lines, c.requires.room)) read c.loop-k.invariant.written;
       rest = rest_kept understood c.args.lines.now c.loop-k.lines c.loop-k.k c.unwrap.result c.loop-k.invariant.rest;
     }
