@@ -11,7 +11,7 @@
  *   pairs    n*n bytes: the pair (s, t) at s*n+t, 0 where it is struck
  *   strikes  four bytes for each of n*n strikes: s, t, 0 for label or 1 for step, and the state stepped to (0 for label)
  *
- * Each call returns 0 where it went well, and else the number of its refusal, and then no area is written. A good
+ * Each call but comparer_fits returns 0 where it went well, and else the number of its refusal, and then no area is written. A good
  * answer is written at the front of the area `answer`. */
 #ifndef COMPARER_H
 #define COMPARER_H
@@ -53,7 +53,7 @@ bool comparer_fits(size_t n, const uint8_t *labels, size_t labels_len, const uin
 /* Begins a sheet: every pair stands, and nothing is struck. Writes the sheet and the pairs, and not the strikes. */
 uint8_t comparer_begin(size_t n, const uint8_t *labels, size_t labels_len, const uint8_t *steps, size_t steps_len,
                        uint8_t *sheet, size_t sheet_len, uint8_t *pairs, size_t pairs_len,
-                       uint8_t *strikes, size_t strikes_len);
+                       const uint8_t *strikes, size_t strikes_len);
 
 /* Tries the pair (s, t), and strikes it if it stands and has a ground. Answers five bytes: the verdict, and the strike
  * where the pair is struck now, else zeros. */
@@ -66,8 +66,8 @@ uint8_t comparer_sweep(size_t n, const uint8_t *labels, size_t labels_len, const
                        uint8_t *sheet, size_t sheet_len, uint8_t *pairs, size_t pairs_len,
                        uint8_t *strikes, size_t strikes_len, size_t s, uint8_t *answer, size_t answer_len);
 
-/* Sweeps all rows, pass after pass, until a whole pass strikes nothing, and marks the sheet settled. Answers the strikes
- * made and the passes taken, two bytes each, low byte first. */
+/* Sweeps all rows, pass after pass, until a whole pass strikes nothing, and marks the sheet settled. Answers how many
+ * strikes it made and the passes taken, two bytes each, low byte first. */
 uint8_t comparer_settle(size_t n, const uint8_t *labels, size_t labels_len, const uint8_t *steps, size_t steps_len,
                         uint8_t *sheet, size_t sheet_len, uint8_t *pairs, size_t pairs_len,
                         uint8_t *strikes, size_t strikes_len, uint8_t *answer, size_t answer_len);
@@ -82,10 +82,10 @@ uint8_t comparer_below(size_t n, const uint8_t *labels, size_t labels_len, const
                        const uint8_t *sheet, size_t sheet_len, const uint8_t *pairs, size_t pairs_len,
                        size_t s, size_t t, uint8_t *answer, size_t answer_len);
 
-/* Answers the first strike of the struck pair (s, t), four bytes. Writes none of the sheet's areas. */
+/* Answers the first strike of the struck pair (s, t), four bytes. */
 uint8_t comparer_reason(size_t n, const uint8_t *labels, size_t labels_len, const uint8_t *steps, size_t steps_len,
                         const uint8_t *sheet, size_t sheet_len, const uint8_t *pairs, size_t pairs_len,
-                        uint8_t *strikes, size_t strikes_len, size_t s, size_t t, uint8_t *answer, size_t answer_len);
+                        const uint8_t *strikes, size_t strikes_len, size_t s, size_t t, uint8_t *answer, size_t answer_len);
 
 /* Writes into `walk`, which has n bytes or more, the states of a walk of the fewest steps that answers the step from s to
  * u from t. Answers in one byte how many states it has. */

@@ -14,7 +14,7 @@ unsafe extern "C" {
         sheet_len: usize,
         pairs: *mut u8,
         pairs_len: usize,
-        strikes: *mut u8,
+        strikes: *const u8,
         strikes_len: usize,
     ) -> u8;
 
@@ -101,7 +101,7 @@ impl Host {
                 self.sheet.len(),
                 self.pairs.as_mut_ptr(),
                 self.pairs.len(),
-                self.strikes.as_mut_ptr(),
+                self.strikes.as_ptr(),
                 self.strikes.len(),
             )
         };

@@ -16,22 +16,17 @@ const PAIR: Option<Refusal> = Some(Refusal::OtherPair);
 
 const STEP: Option<Refusal> = Some(Refusal::NoSuchStep);
 
-fn begin_refusal<M: Machine>(
-    machine: &M,
-    pairs: &mut [u8],
-    records: &mut [Strike],
-) -> Option<Refusal> {
-    Sheet::begin(machine, pairs, &StrikeSlice { items: records }).err()
+fn begin_refusal<M: Machine>(machine: &M, pairs: &mut [u8], records: &[Strike]) -> Option<Refusal> {
+    Sheet::begin(machine, pairs, &records).err()
 }
 
 #[test]
 fn begin_refuses(rt: HostRuntime) {
     let mut pairs = [7; 9];
     assert!(rt;
-        begin_refusal(&Table::new(&[ONE], &[]), &mut pairs, &mut [BLANK; 9])
-            == Some(Refusal::NoStates)
-            && begin_refusal(&two_beside_one(), &mut pairs, &mut [BLANK; 8]) == SHORT
-            && begin_refusal(&two_beside_one(), &mut [7; 8], &mut [BLANK; 9]) == SHORT
+        begin_refusal(&Table::new(&[ONE], &[]), &mut pairs, &[BLANK; 9]) == Some(Refusal::NoStates)
+            && begin_refusal(&two_beside_one(), &mut pairs, &[BLANK; 8]) == SHORT
+            && begin_refusal(&two_beside_one(), &mut [7; 8], &[BLANK; 9]) == SHORT
             && pairs == [7; 9]
     );
 }

@@ -11,6 +11,7 @@ use Rattle.model.specs.Orders.{flags_at_most}
 use Rattle.model.specs.OrderLaws.{flags_lawful}
 use Rattle.model.specs.Machines.{Bounded, no_states}
 use Rattle.model.specs.MachineLaws.{tabled_bounded}
+use Rattle.model.specs.Memory.{over}
 use Rattle.sheet.specs.declared.request.Request.{Request}
 use Rattle.sheet.specs.declared.request.Request.TheVariants.{Try, Sweep, Settle, Class, Below, Reason, Answer}
 use Rattle.sheet.specs.declared.request.Reply.{Reply}
@@ -19,8 +20,8 @@ use Rattle.sheet.specs.Replies.{Replied, reply, Replies}
 use Rattle.sheet.specs.Promises.{CameUnderAll}
 use Rattle.sheet.specs.Law.{Asked, Law}
 use Rattle.sheet.proofs.Running.{running_law}
-use Rattle.host.specs.Bytes.{record_bytes, records_in, laid, Table, fits, machine_in, Areas, page_in}
-use Rattle.host.specs.Said.{verdict_bytes, number_bytes, settled_bytes, state_bytes, bool_bytes, number_in, said, lacks_at_begin}
+use Rattle.host.specs.Bytes.{record_bytes, records_in, Table, fits, machine_in, Areas, page_in}
+use Rattle.host.specs.Said.{verdict_bytes, number_bytes, settled_bytes, state_bytes, bool_bytes, returned, said, lacks_at_begin}
 use Rattle.host.specs.Calls.{on, HostBegins}
 use Rattle.host.specs.Runs.{Exchange, reply_bytes, WalksIn, Tells, Enough, HostMakes, HostRunsKeepTheLaw}
 use Rattle.host.proofs.ByFour.{fit_labels}
@@ -38,7 +39,7 @@ refused_not_zero OtherPair n = omega arith
 refused_not_zero NoSuchStep n = omega arith
 refused_not_zero LineNotEarlier n = omega arith
 
-good_by_number : {A : Type 0} (P : A → Type 0) (Q : Type 0) (r : Result A Refusal) → IfOk r (λ a. P a × Q) → 0 ≡ number_in r → Q
+good_by_number : {A : Type 0} (P : A → Type 0) (Q : Type 0) (r : Result A Refusal) → IfOk r (λ a. P a × Q) → 0 ≡ returned r → Q
 good_by_number P Q (Ok a) promise n = promise.1
 good_by_number P Q (Err e) promise n = absurd (refused_not_zero e n)
 
@@ -51,8 +52,8 @@ begun t before after begins = by_area (lacks_at_begin t before.sheet) refl
     by_area false e = let c = begins.called e in good_by_number (λ sheet. page_in after ≡ page sheet after.pairs (records_in after.strikes)) (CameUnderAll (machine_in t) (page_in after)) c.0 c.1.promise c.2
 
 -- the reply of a call, told by its number and bytes
-reply_told : {A : Type 0} (name : A → Reply) (bytes : A → List ℕ) (r : Result A Refusal) (x : Exchange) → ((a : A) → reply_bytes (name a) ≡ bytes a) → ((a : A) → WalksIn (name a) x.walked) → x.number ≡ number_in r → x.answer ≡ said bytes r x.area → Tells (reply name r) x
-reply_told name bytes (Ok a) x same walks n is = record { number = n; answer = is ∙ ap (λ bs. laid bs x.area) (sym (same a)); walk = walks a }
+reply_told : {A : Type 0} (name : A → Reply) (bytes : A → List ℕ) (r : Result A Refusal) (x : Exchange) → ((a : A) → reply_bytes (name a) ≡ bytes a) → ((a : A) → WalksIn (name a) x.walked) → x.number ≡ returned r → x.answer ≡ said bytes r x.area → Tells (reply name r) x
+reply_told name bytes (Ok a) x same walks n is = record { number = n; answer = is ∙ ap (λ bs. over bs x.area) (sym (same a)); walk = walks a }
 reply_told name bytes (Err e) x same walks n is = record { number = n; answer = is; walk = tt }
 
 module _ (t : Table) where
@@ -64,7 +65,7 @@ module _ (t : Table) where
       let c = makes.called enough.0 in (reply (λ a. Settled a.0 a.1) c.0, (c.0, refl, c.1.answer), reply_told (λ a. Settled a.0 a.1) settled_bytes c.0 x (λ _. refl) (λ _. tt) c.2 c.3)
   one before (Class s) x after enough makes = let c = makes.0.called enough.0 in (reply ClassIs c.0, (c.0, refl, c.1.answer, ap page_in makes.1), reply_told ClassIs state_bytes c.0 x (λ _. refl) (λ _. tt) c.2 c.3)
   one before (Below s u) x after enough makes = let c = makes.0.called enough.0 in (reply IsBelow c.0, (c.0, refl, c.1.answer, ap page_in makes.1), reply_told IsBelow bool_bytes c.0 x (λ _. refl) (λ _. tt) c.2 c.3)
-  one before (Reason s u) x after enough makes = let c = makes.called enough.0 in (reply ReasonIs c.0, (c.0, refl, c.1.answer, ap page_in c.1.left), reply_told ReasonIs record_bytes c.0 x (λ _. refl) (λ _. tt) c.2 c.3)
+  one before (Reason s u) x after enough makes = let c = makes.0.called enough.0 in (reply ReasonIs c.0, (c.0, refl, c.1.answer, ap page_in makes.1), reply_told ReasonIs record_bytes c.0 x (λ _. refl) (λ _. tt) c.2 c.3)
   one before (Answer s u v) x after enough makes =
       let c = makes.0.called enough.0 in
       (reply (λ k. Walked k x.walked) c.0, (c.0, x.walk, x.walked, refl, enough.1, c.1.answer, ap page_in makes.1), reply_told (λ k. Walked k x.walked) state_bytes c.0 x (λ _. refl) (λ _. refl) c.2 c.3)

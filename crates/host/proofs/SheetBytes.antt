@@ -1,9 +1,10 @@
 -- What is read of the bytes of a sheet that were written. Assumes nothing.
 use Rattle.std.proofs.Common.{◌≡◌, ℕ, ◌^◌, ◌<◌, ◌≤◌, Bool, true, false, not, eqb, List, [], ◌∷◌, length, set, refl, ap, ◌∙◌, arith}
 use Rattle.std.specs.Int.{w16, from_le_bytes}
+use Rattle.model.specs.Memory.{over}
 use Rattle.sheet.specs.declared.sheet.Sheet.{Sheet}
 use Rattle.sheet.specs.Pages.{sheet_of}
-use Rattle.host.specs.Bytes.{sheet_in, with_made, laid}
+use Rattle.host.specs.Bytes.{sheet_in, with_made}
 use Rattle.host.specs.Said.{number_bytes, bool_byte, sheet_bytes}
 
 number_again : (k : ℕ) → k < 2 ^ 16 → from_le_bytes w16 (number_bytes k) ≡ k
@@ -32,5 +33,5 @@ settled_read (a ∷ []) made h few = absurd (omega arith)
 settled_read (a ∷ b ∷ []) made h few = absurd (omega arith)
 settled_read (a ∷ b ∷ c ∷ []) made h few = absurd (omega arith)
 
-pub sheet_read : (sheet : Sheet) (bytes : List ℕ) → sheet.strikes < 2 ^ 16 → sheet_in (laid (sheet_bytes sheet) bytes) ≡ sheet
+pub sheet_read : (sheet : Sheet) (bytes : List ℕ) → sheet.strikes < 2 ^ 16 → sheet_in (over (sheet_bytes sheet) bytes) ≡ sheet
 sheet_read sheet bytes few = ap (λ b. sheet_of sheet.count (from_le_bytes w16 (number_bytes sheet.strikes)) b) (bool_again sheet.settled) ∙ ap (λ k. sheet_of sheet.count k sheet.settled) (number_again sheet.strikes few)

@@ -47,9 +47,9 @@ module _ (sheet_after pairs_after strikes_after written : List ℕ) (later : She
     areas_left f is = ap₂ (λ x y. areas x pairs_after y) (is ∙ ap (λ (x : Sheet). f x.strikes sheet) (sym read)) strikes_left
 
 -- what is said of the machine, the pages and the answer of a call, where the bytes say them
-over : {A : Type 0} (P : Meaning FlagSet → Page → Result A Refusal → Page → Type 0) {m n : Meaning FlagSet} {p before : Page} {r q : Result A Refusal} {after later : Page} →
+carried_pages : {A : Type 0} (P : Meaning FlagSet → Page → Result A Refusal → Page → Type 0) {m n : Meaning FlagSet} {p before : Page} {r q : Result A Refusal} {after later : Page} →
     m ≡ n → p ≡ before → r ≡ q → after ≡ later → P m p r after → P n before q later
-over P {m} {n} {p} {before} {r} {q} {after} {later} d e f g x =
+carried_pages P {m} {n} {p} {before} {r} {q} {after} {later} d e f g x =
     subst (P n before q) g (subst (λ y. P n before y after) f (subst (λ y. P n y r after) e (subst (λ y. P y p r after) d x)))
 
 -- a call that struck, and what the areas then hold
@@ -64,7 +64,7 @@ module _ {A : Type 0} (P Q : Meaning FlagSet → Page → Result A Refusal → P
       let before = ap (λ x. page_on x pairs strikes) is_now in
       let after = page_left sheet_after pairs_after strikes_after written later read back in
       record {
-        answer = over P machine before is after answer;
-        promise = over Q machine before is after promise;
-        left = areas_left sheet_after pairs_after strikes_after written later read back name name_after sheet strikes now is_now filled room f marked;
+        answer = carried_pages P machine before is after answer;
+        promise = carried_pages Q machine before is after promise;
+        leaves = areas_left sheet_after pairs_after strikes_after written later read back name name_after sheet strikes now is_now filled room f marked;
       }

@@ -1,9 +1,9 @@
 -- What the bytes of labels, strike records and sheets say, and the bytes that say it. Assumes nothing.
-use Rattle.std.specs.Prelude.{ℕ, zero, suc, ◌+◌, ◌*◌, Bool, cond, not, ◌&&◌, ◌||◌, List, [], ◌∷◌, ◌++◌, length, take, drop, map, ◌==◌, nat_le, nat_lt, slice_index}
+use Rattle.std.specs.Prelude.{ℕ, zero, suc, ◌+◌, ◌*◌, Bool, cond, not, ◌&&◌, ◌||◌, List, [], ◌∷◌, ◌++◌, length, take, drop, map, ◌==◌, nat_lt, slice_index}
 use Rattle.std.specs.List.{slice_range}
 use Rattle.std.specs.Int.{w16, w32, to_le_bytes, from_le_bytes}
 use Rattle.model.specs.declared.flags.FlagSet.{FlagSet}
-use Rattle.model.specs.Machines.{Meaning, state_bound, no_states, tabled}
+use Rattle.model.specs.Machines.{Meaning, no_states, tabled, is_sized}
 use Rattle.strikes.specs.declared.strike.Ground.{Ground}
 use Rattle.strikes.specs.declared.strike.Ground.TheVariants.{ByLabel, ByStep}
 use Rattle.strikes.specs.declared.strike.Strike.{Strike}
@@ -60,10 +60,6 @@ sheet_in bytes = sheet_of (slice_index bytes 0) (from_le_bytes w16 (slice_range 
 abbrev pub with_made : ℕ → List ℕ → List ℕ
 with_made made bytes = take 2 bytes ++ to_le_bytes w16 made ++ drop 4 bytes
 
--- Bytes at the front of an area.
-abbrev pub laid : List ℕ → List ℕ → List ℕ
-laid bytes area = bytes ++ drop (length bytes) area
-
 -- A table: how many states, the bytes of their labels, and a byte for each pair of them.
 pub record Table : Type 0 where
   pub count : ℕ
@@ -76,10 +72,6 @@ table count labels steps = record { count = count; labels = labels; steps = step
 -- An area is too short for the count.
 abbrev pub short_table : Table → Bool
 short_table t = nat_lt (length t.labels) (4 * t.count) || nat_lt (length t.steps) (t.count * t.count)
-
--- From 1 state to the bound.
-abbrev pub is_sized : ℕ → Bool
-is_sized n = nat_le 1 n && nat_le n state_bound
 
 abbrev pub fits : Table → Bool
 fits t = is_sized t.count && not (short_table t)

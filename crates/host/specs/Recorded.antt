@@ -13,7 +13,8 @@ pub record Recorded {N : Type 0} (i j : ℕ) (before after : N × List ℕ) : Ty
   pub written : after.1 ≡ with_records before.1 i strikes
 
 -- Some strikes written, and then others.
-with_records_append : (bytes : List ℕ) (i : ℕ) (ks ls : List Strike) → with_records bytes i (ks ++ ls) ≡ with_records (with_records bytes i ks) (i + length ks) ls
+with_records_append : (bytes : List ℕ) (i : ℕ) (ks ls : List Strike) →
+    with_records bytes i (ks ++ ls) ≡ with_records (with_records bytes i ks) (i + length ks) ls
 with_records_append bytes i [] ls = let e : i + 0 ≡ i = omega arith in ap (λ k. with_records bytes k ls) (sym e)
 with_records_append bytes i (k ∷ ks) ls =
     let e : i + 1 + length ks ≡ i + suc (length ks) = omega arith in
@@ -27,7 +28,8 @@ recorded_then i j k a b c p q = record {
   written = q.written ∙ ap (λ bytes. with_records bytes j q.strikes) p.written ∙ ap (λ x. with_records (with_records a.1 i p.strikes) x q.strikes) (sym p.many) ∙ sym (with_records_append a.1 i p.strikes q.strikes);
 }
 
-pub recorded_lasting : {S N : Type 0} (name : S → N) (bytes : S → List ℕ) → Lasting (λ i j a b. Recorded i j (name a, bytes a) (name b, bytes b))
+pub recorded_lasting : {S N : Type 0} (name : S → N) (bytes : S → List ℕ) →
+    Lasting (λ i j a b. Recorded i j (name a, bytes a) (name b, bytes b))
 recorded_lasting name bytes = record {
   at_once = λ i a. record { named = refl; strikes = []; many = omega arith; written = refl };
   then = λ i j k a b c. recorded_then i j k (name a, bytes a) (name b, bytes b) (name c, bytes c);

@@ -3,12 +3,14 @@ use Rattle.std.specs.Prelude.{◌≡◌, ℕ, Bool, true, false, cond, ◌&&◌,
 use Rattle.std.specs.Int.{w16, to_le_bytes}
 use Rattle.model.specs.declared.refusal.Refusal.{Refusal}
 use Rattle.model.specs.Refusals.{number_of}
+use Rattle.model.specs.Memory.{over}
+use Rattle.model.specs.Machines.{is_sized}
 use Rattle.sheet.specs.declared.sheet.Sheet.{Sheet}
 use Rattle.sheet.specs.declared.request.Request.{Request}
 use Rattle.sheet.specs.declared.request.Request.TheVariants.{Try, Sweep, Settle, Class, Below, Reason, Answer}
 use Rattle.sheet.specs.declared.verdict.Verdict.{Verdict}
 use Rattle.sheet.specs.declared.verdict.Verdict.TheVariants.{StaysStruck, Stays, Struck}
-use Rattle.host.specs.Bytes.{record_bytes, laid, Table, short_table, is_sized}
+use Rattle.host.specs.Bytes.{record_bytes, Table, short_table}
 
 -- A verdict: 0 where the pair stays struck, 1 where it stays, 2 where it is struck now; then the strike, or zeros.
 abbrev pub verdict_bytes : Verdict → List ℕ
@@ -20,7 +22,7 @@ verdict_bytes (Struck k) = 2 ∷ record_bytes k
 abbrev pub number_bytes : ℕ → List ℕ
 number_bytes k = to_le_bytes w16 k
 
--- The strikes made and the passes taken.
+-- How many strikes a settle made, and the passes that it took.
 abbrev pub settled_bytes : ℕ × ℕ → List ℕ
 settled_bytes a = number_bytes a.0 ++ number_bytes a.1
 
@@ -50,13 +52,13 @@ answer_size (Reason s t) = 4
 answer_size (Answer s t u) = 1
 
 -- The number that a call returns: 0, or that of the refusal.
-abbrev pub number_in : {A : Type 0} → Result A Refusal → ℕ
-number_in (Ok a) = 0
-number_in (Err e) = number_of e
+abbrev pub returned : {A : Type 0} → Result A Refusal → ℕ
+returned (Ok a) = 0
+returned (Err e) = number_of e
 
 -- The answer's area: its bytes at the front, or as it was.
 abbrev pub said : {A : Type 0} → (A → List ℕ) → Result A Refusal → List ℕ → List ℕ
-said bytes (Ok a) area = laid (bytes a) area
+said bytes (Ok a) area = over (bytes a) area
 said bytes (Err e) area = area
 
 -- The table, the area of the sheet or the answer's is too short.
@@ -69,6 +71,7 @@ lacks_at_begin t sheet = is_sized t.count && lacks t sheet [] 0
 
 -- A call of a host is refused by 6 where one of these is too short, and leaves all as it was. Else it is the call of the
 -- sheet on what the bytes say, whose answer r is told by the number and the bytes in the answer's area.
-pub record Hosted {A : Type 0} (short : Bool) (Unchanged : Type 0) (Called : Result A Refusal → Type 0) (bytes : A → List ℕ) (area : List ℕ) (number : ℕ) (answer : List ℕ) : Type 0 where
+pub record Hosted {A : Type 0} (short : Bool) (Unchanged : Type 0) (Called : Result A Refusal → Type 0)
+    (bytes : A → List ℕ) (area : List ℕ) (number : ℕ) (answer : List ℕ) : Type 0 where
   pub refused : short ≡ true → (number ≡ 6) × (answer ≡ area) × Unchanged
-  pub called : short ≡ false → (r : Result A Refusal) × Called r × (number ≡ number_in r) × (answer ≡ said bytes r area)
+  pub called : short ≡ false → (r : Result A Refusal) × Called r × (number ≡ returned r) × (answer ≡ said bytes r area)

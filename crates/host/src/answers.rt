@@ -1,11 +1,13 @@
 //! Answers in bytes.
 ghost use Rattle.std.specs.Prelude.{◌≡◌, ◌^◌, ◌<◌, ◌≤◌, length};
-ghost use Rattle.host.specs.Bytes.{laid, table};
+ghost use Rattle.model.specs.Memory.{over};
+ghost use Rattle.host.specs.Bytes.{table};
 ghost use Rattle.host.specs.Said.{verdict_bytes, settled_bytes, lacks, lacks_at_begin};
 
 use crate::records::record_bytes;
 use crate::sheets::{SHEET_BYTES, number_bytes};
-use crate::table::{is_short, is_sized};
+use crate::table::is_short;
+use model::is_sized;
 use sheet::Verdict;
 
 /// How many bytes the answers of the calls have.
@@ -31,7 +33,7 @@ pub(crate) fn verdict_bytes(verdict: Verdict) -> [u8; 5]
     }
 }
 
-/// The bytes of the strikes made and the passes taken.
+/// The bytes of how many strikes a settle made, and of the passes that it took.
 pub(crate) fn settled_bytes(made: usize, passes: usize) -> [u8; 4]
     requires made { made < 2 ^ 16 }
     requires passes { passes < 2 ^ 16 }
@@ -66,7 +68,7 @@ pub(crate) fn lacks_at_begin(count: usize, labels: &[u8], steps: &[u8], sheet: &
 /// Writes bytes at the front of an area.
 pub(crate) fn lay(area: &mut [u8], bytes: &[u8])
     requires { length bytes.now ≤ length area.old }
-    ensures { area.new ≡ laid bytes.now area.old }
+    ensures { area.new ≡ over bytes.now area.old }
 {
     area[..bytes.len()].copy_from_slice(bytes);
 }

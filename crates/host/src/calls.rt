@@ -1,6 +1,6 @@
 //! The calls for programs in C. A byte area is passed as a pointer and its length.
 //!
-//! Each call returns 0, or the number of its refusal, and writes a good answer at the front of the answer's area. It is
+//! Each call but `comparer_fits` returns 0, or the number of its refusal, and writes a good answer at the front of the answer's area. It is
 //! refused as the call of the sheet is, and by 6 where the table or an area is too short; then it writes nothing.
 ghost use Rattle.host.specs.Bytes.{table, fits, areas};
 ghost use Rattle.std.specs.Prelude.{◌≡◌};
@@ -10,7 +10,7 @@ use crate::answers::{
     NUMBER_BYTES, ONE_BYTE, SETTLED_BYTES, VERDICT_BYTES, lacks, lacks_at_begin, lay,
     settled_bytes, verdict_bytes,
 };
-use crate::records::{RECORD_BYTES, RecordBytes, record_bytes};
+use crate::records::{RECORD_BYTES, RecordBytes, RecordBytesMut, record_bytes};
 use crate::sheets::{number_bytes, sheet_bytes, sheet_in, write_made};
 use crate::table::{FlagTable, is_fit};
 use model::{Flags, Refusal};
@@ -24,8 +24,7 @@ pub extern "C" fn comparer_fits(count: usize, labels: &[u8], steps: &[u8]) -> bo
     is_fit(count, labels, steps)
 }
 
-/// Begins a sheet, and writes the whole of it and its pairs. There is no other answer. The strikes are untouched, but lent as to
-/// the calls that write them.
+/// Begins a sheet, and writes the whole of it and its pairs. There is no other answer.
 #[unsafe(no_mangle)]
 pub extern "C" fn comparer_begin(
     count: usize,
@@ -33,9 +32,9 @@ pub extern "C" fn comparer_begin(
     steps: &[u8],
     sheet: &mut [u8],
     pairs: &mut [u8],
-    strikes: &mut [u8],
+    strikes: &[u8],
 ) -> u8
-    ensures { HostBegins (table count labels.now steps.now) (areas sheet.old pairs.old strikes.old) result (areas sheet.new pairs.new strikes.new) }
+    ensures { HostBegins (table count labels.now steps.now) (areas sheet.old pairs.old strikes.now) result (areas sheet.new pairs.new strikes.now) }
 {
     if lacks_at_begin(count, labels, steps, sheet) {
         return u8::from(Refusal::ShortMemory);
@@ -74,7 +73,7 @@ pub extern "C" fn comparer_try(
         order: &Flags {},
     };
     let mut now = sheet_in(sheet);
-    let mut records = RecordBytes { bytes: strikes };
+    let mut records = RecordBytesMut { bytes: strikes };
     match now.try_pair(&on, pairs, &mut records, s, t) {
         Ok(verdict) => {
             write_made(sheet, now.strikes);
@@ -108,7 +107,7 @@ pub extern "C" fn comparer_sweep(
         order: &Flags {},
     };
     let mut now = sheet_in(sheet);
-    let mut records = RecordBytes { bytes: strikes };
+    let mut records = RecordBytesMut { bytes: strikes };
     match now.sweep(&on, pairs, &mut records, s) {
         Ok(struck) => {
             write_made(sheet, now.strikes);
@@ -119,8 +118,8 @@ pub extern "C" fn comparer_sweep(
     }
 }
 
-/// Sweeps all rows until nothing is struck, and marks the sheet settled. The answer is the strikes made and the passes
-/// taken, two bytes each.
+/// Sweeps all rows until nothing is struck, and marks the sheet settled. The answer is how many strikes it made and
+/// the passes taken, two bytes each.
 #[unsafe(no_mangle)]
 pub extern "C" fn comparer_settle(
     count: usize,
@@ -142,7 +141,7 @@ pub extern "C" fn comparer_settle(
         order: &Flags {},
     };
     let mut now = sheet_in(sheet);
-    let mut records = RecordBytes { bytes: strikes };
+    let mut records = RecordBytesMut { bytes: strikes };
     match now.settle(&on, pairs, &mut records) {
         Ok((struck, passes)) => {
             write_made(sheet, now.strikes);
@@ -207,7 +206,7 @@ pub extern "C" fn comparer_below(
     }
 }
 
-/// The first strike record of the pair (s, t), where it is struck. The answer is that record. The strikes are untouched.
+/// The first strike record of the pair (s, t), where it is struck. The answer is that record.
 #[unsafe(no_mangle)]
 pub extern "C" fn comparer_reason(
     count: usize,
@@ -215,12 +214,12 @@ pub extern "C" fn comparer_reason(
     steps: &[u8],
     sheet: &[u8],
     pairs: &[u8],
-    strikes: &mut [u8],
+    strikes: &[u8],
     s: usize,
     t: usize,
     answer: &mut [u8],
 ) -> u8
-    ensures { HostReasons (table count labels.now steps.now) (areas sheet.now pairs.now strikes.old) s t answer.old result (areas sheet.now pairs.now strikes.new) answer.new }
+    ensures { HostReasons (table count labels.now steps.now) (areas sheet.now pairs.now strikes.now) s t answer.old result answer.new }
 {
     if lacks(count, labels, steps, sheet, answer, RECORD_BYTES) {
         return u8::from(Refusal::ShortMemory);

@@ -5,7 +5,7 @@ ghost use Rattle.host.specs.Bytes.{record_in, records_in, record_bytes, with_rec
 ghost use Rattle.host.specs.Recorded.{Recorded, recorded_lasting};
 
 use crate::fours::four_at;
-use sheet::StrikeMemory;
+use sheet::{StrikeMemory, StrikeRecords};
 use strikes::{Ground, Strike};
 
 /// How many bytes a record has.
@@ -42,18 +42,14 @@ pub(crate) fn record_bytes(strike: Strike) -> [u8; 4]
     }
 }
 
-/// A lent area of records of four bytes.
+/// An area of records of four bytes.
 #[derive(Drop)]
 pub(crate) struct RecordBytes<'a> {
-    pub(crate) bytes: &'a mut [u8],
+    pub(crate) bytes: &'a [u8],
 }
 
-impl<'a> StrikeMemory for RecordBytes<'a> {
+impl<'a> StrikeRecords for RecordBytes<'a> {
     ghost records = { λ s. records_in s.bytes.now };
-
-    ghost filled = { λ i j a b. Recorded i j (a.bytes.ghost_name, a.bytes.now) (b.bytes.ghost_name, b.bytes.now) };
-
-    ghost lasting = { recorded_lasting (λ s. s.bytes.ghost_name) (λ s. s.bytes.now) };
 
     #[tactic(auto, using(crate::proofs::ByFour::length_records))]
     fn room(&self) -> usize
@@ -67,6 +63,34 @@ impl<'a> StrikeMemory for RecordBytes<'a> {
     {
         four_at(self.bytes, k).map(record_in)
     }
+}
+
+/// The same, lent to be written.
+#[derive(Drop)]
+pub(crate) struct RecordBytesMut<'a> {
+    pub(crate) bytes: &'a mut [u8],
+}
+
+impl<'a> StrikeRecords for RecordBytesMut<'a> {
+    ghost records = { λ s. records_in s.bytes.now };
+
+    fn room(&self) -> usize
+        ensures { result ≡ length (records_in self.now.bytes.now) }
+    {
+        RecordBytes { bytes: self.bytes }.room()
+    }
+
+    fn record(&self, k: usize) -> Option<Strike>
+        ensures { result ≡ slice_get (records_in self.now.bytes.now) k }
+    {
+        RecordBytes { bytes: self.bytes }.record(k)
+    }
+}
+
+impl<'a> StrikeMemory for RecordBytesMut<'a> {
+    ghost filled = { λ i j a b. Recorded i j (a.bytes.ghost_name, a.bytes.now) (b.bytes.ghost_name, b.bytes.now) };
+
+    ghost lasting = { recorded_lasting (λ s. s.bytes.ghost_name) (λ s. s.bytes.now) };
 
     fn write(&mut self, k: usize, strike: Strike)
         ensures written { records_in self.new.bytes.now ≡ slice_set (records_in self.old.bytes.now) k strike }

@@ -2,10 +2,10 @@
 ghost use Rattle.std.specs.Prelude.{◌≡◌, ◌*◌, ◌≤◌, length};
 ghost use Rattle.model.specs.Machines.{state_bound, states, label_of, tabled};
 ghost use Rattle.model.specs.MachineLaws.{tabled_bounded};
-ghost use Rattle.host.specs.Bytes.{label_in, labels_in, is_sized, table, short_table, fits, machine_in};
+ghost use Rattle.host.specs.Bytes.{label_in, labels_in, table, short_table, fits, machine_in};
 
 use crate::fours::four_at;
-use model::{FlagSet, Machine, STATE_BOUND};
+use model::{FlagSet, Machine, is_sized};
 
 /// How many bytes a label has.
 const LABEL_BYTES: usize = 4;
@@ -16,13 +16,6 @@ pub(crate) fn is_short(count: usize, labels: &[u8], steps: &[u8]) -> bool
 {
     labels.len() / LABEL_BYTES < count
         || count.checked_mul(count).is_none_or(|all| steps.len() < all)
-}
-
-/// Whether there are from one state to the bound.
-pub(crate) fn is_sized(count: usize) -> bool
-    ensures { result ≡ is_sized count }
-{
-    count >= 1 && count <= STATE_BOUND
 }
 
 /// Whether there are from one state to the bound, and the areas are long enough for them.

@@ -72,7 +72,7 @@ impl Areas {
         comparer_below(3, &LABELS, &STEPS, &self.sheet, &self.pairs, s, t, answer)
     }
 
-    fn reason(&mut self, s: usize, t: usize, answer: &mut [u8]) -> u8 {
+    fn reason(&self, s: usize, t: usize, answer: &mut [u8]) -> u8 {
         let Areas {
             sheet,
             pairs,

@@ -1,7 +1,7 @@
 //! What runs of the calls say: a theorem in the contract of a call that does nothing.
 ghost use Rattle.host.specs.Runs.{HostRunsKeepTheLaw};
 
-/// Every run of the calls, on whatever areas lie between, keeps the law of runs.
+/// After a begin that went well, every run of the calls with one table and long enough areas keeps the law of runs.
 pub fn host_runs_keep_the_law()
     ensures { HostRunsKeepTheLaw }
 {}

@@ -32,7 +32,7 @@ module _ {L : Type 0} (on : Setting L) where
       Checked (sweep_cause (size on) p s) (after ≡ p)
       (λ k. (p.sheet.strikes + k ≡ (swept on (held p) s (size on)).made) × (after ≡ holding p p.sheet.settled (swept on (held p) s (size on)))) r
 
-  -- Settle: strikes made and passes taken, and the settled page after the passes.
+  -- Settle: how many strikes it made, the passes taken, and the settled page after them.
   abbrev pub Settles : Page → Result (ℕ × ℕ) Refusal → Page → Type 0
   Settles p r after =
       Checked (settle_cause (size on) p) (after ≡ p)
@@ -53,7 +53,7 @@ Classes n sheet pairs s r = Checked (class_cause n sheet pairs s) (Unit {0}) (λ
 abbrev pub Belows : ℕ → Sheet → List ℕ → ℕ → ℕ → Result Bool Refusal → Type 0
 Belows n sheet pairs s t r = Checked (below_cause n sheet pairs s t) (Unit {0}) (λ b. b ≡ stands n pairs s t) r
 
--- What is left of a reason once the sheet is checked.
+-- What reason answers once the sheet is checked. Only functions of the crate cite it.
 abbrev pub ShowsRecord : ℕ → Page → ℕ → ℕ → Result Strike Refusal → Type 0
 ShowsRecord n p s t r = Checked (cause (record_tests n p s t)) (Unit {0}) (λ k. record_of p s t ≡ Some k) r
 
@@ -61,13 +61,13 @@ ShowsRecord n p s t r = Checked (cause (record_tests n p s t)) (Unit {0}) (λ k.
 abbrev pub Reasons : ℕ → Page → ℕ → ℕ → Result Strike Refusal → Type 0
 Reasons n p s t r = Checked (reason_cause n p s t) (Unit {0}) (λ k. record_of p s t ≡ Some k) r
 
--- What is left of an answer once the sheet is checked.
+-- What answer answers once the sheet is checked. Only functions of the crate cite it.
 abbrev pub WritesWalk : {L : Type 0} → Meaning L → List ℕ → ℕ → ℕ → ℕ → List ℕ → Result ℕ Refusal → List ℕ → Type 0
 WritesWalk m pairs s t u walk r after =
     Checked (cause (step_tests m pairs s t u)) (after ≡ walk)
     (λ k. Written m (row_of (states m) pairs s) (row_of (states m) pairs u) t walk after k) r
 
--- Answer: a walk of the fewest steps from t that stands against s before its last state, and against u at it.
+-- Answer: a walk of the fewest steps from t, with (s, v) standing at every state v before its last, and (u, v) at its last.
 abbrev pub Answers : {L : Type 0} → Meaning L → Sheet → List ℕ → ℕ → ℕ → ℕ → List ℕ → Result ℕ Refusal → List ℕ → Type 0
 Answers m sheet pairs s t u walk r after =
     Checked (answer_cause m sheet pairs (length walk) s t u) (after ≡ walk)

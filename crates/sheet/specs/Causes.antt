@@ -63,7 +63,8 @@ step_tests m pairs s t u = (not (stands (states m) pairs s t), 10) ∷ (not (m.s
 
 -- What an answer tests before its step: also that there is a place for each state of a walk.
 abbrev pub walk_tests : ℕ → Sheet → List ℕ → ℕ → List ℕ → List (Bool × ℕ)
-walk_tests n sheet pairs room numbers = (short_pairs sheet pairs, 6) ∷ (nat_lt room sheet.count, 6) ∷ own_tests n sheet pairs numbers ++ (not sheet.settled, 9) ∷ []
+walk_tests n sheet pairs room numbers =
+    (short_pairs sheet pairs, 6) ∷ (nat_lt room sheet.count, 6) ∷ own_tests n sheet pairs numbers ++ (not sheet.settled, 9) ∷ []
 
 abbrev pub answer_tests : {L : Type 0} → Meaning L → Sheet → List ℕ → ℕ → ℕ → ℕ → ℕ → List (Bool × ℕ)
 answer_tests m sheet pairs room s t u = walk_tests (states m) sheet pairs room (s ∷ t ∷ u ∷ []) ++ step_tests m pairs s t u

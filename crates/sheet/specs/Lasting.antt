@@ -2,6 +2,7 @@
 use Rattle.std.specs.Prelude.{◌≡◌, ℕ, refl}
 use Rattle.std.proofs.Common.{◌∙◌}
 
+-- What such a relation owes: it holds where nothing is written, and of one stretch of writing after another.
 pub record Lasting {S : Type 0} (filled : ℕ → ℕ → S → S → Type 0) : Type 0 where
   pub at_once : (i : ℕ) (a : S) → filled i i a a
   pub then : (i j k : ℕ) (a b c : S) → filled i j a b → filled j k b c → filled i k a c

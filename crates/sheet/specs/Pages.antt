@@ -24,10 +24,11 @@ sheet_of count strikes settled = record { count = count; strikes = strikes; sett
 abbrev pub begun_page : ℕ → List ℕ → List Strike → Page
 begun_page n pairs records = page (sheet_of n 0 false) (replicate (n * n) 1 ++ drop (n * n) pairs) records
 
+-- The memory of a page, with the number of strikes that its sheet has.
 abbrev pub held : Page → Memory
 held p = memory p.pairs p.records p.sheet.strikes
 
--- The page with another memory.
+-- The page with this memory and its number of strikes, marked settled or not.
 abbrev pub holding : Page → Bool → Memory → Page
 holding p settled mem = page (sheet_of p.sheet.count mem.made settled) mem.pairs mem.records
 
@@ -68,11 +69,13 @@ begin_cause n pairs records = cause (((n == 0), 5) ∷ (nat_lt (length pairs) (n
 
 abbrev pub try_cause : ℕ → Page → ℕ → ℕ → Option ℕ
 try_cause n p s t =
-    cause ((short_pairs p.sheet p.pairs, 6) ∷ (short_records p.sheet p.records, 6) ∷ (outside p.sheet s, 7) ∷ (outside p.sheet t, 7) ∷ (unlike n p.sheet p.pairs, 8) ∷ [])
+    cause ((short_pairs p.sheet p.pairs, 6) ∷ (short_records p.sheet p.records, 6)
+    ∷ (outside p.sheet s, 7) ∷ (outside p.sheet t, 7) ∷ (unlike n p.sheet p.pairs, 8) ∷ [])
 
 abbrev pub sweep_cause : ℕ → Page → ℕ → Option ℕ
 sweep_cause n p s =
-    cause ((short_pairs p.sheet p.pairs, 6) ∷ (short_records p.sheet p.records, 6) ∷ (outside p.sheet s, 7) ∷ (unlike n p.sheet p.pairs, 8) ∷ [])
+    cause ((short_pairs p.sheet p.pairs, 6) ∷ (short_records p.sheet p.records, 6)
+    ∷ (outside p.sheet s, 7) ∷ (unlike n p.sheet p.pairs, 8) ∷ [])
 
 abbrev pub settle_cause : ℕ → Page → Option ℕ
 settle_cause n p =
@@ -84,14 +87,18 @@ class_cause n sheet pairs s =
 
 abbrev pub below_cause : ℕ → Sheet → List ℕ → ℕ → ℕ → Option ℕ
 below_cause n sheet pairs s t =
-    cause ((short_pairs sheet pairs, 6) ∷ (outside sheet s, 7) ∷ (outside sheet t, 7) ∷ (unlike n sheet pairs, 8) ∷ (not sheet.settled, 9) ∷ [])
+    cause ((short_pairs sheet pairs, 6) ∷ (outside sheet s, 7) ∷ (outside sheet t, 7)
+    ∷ (unlike n sheet pairs, 8) ∷ (not sheet.settled, 9) ∷ [])
 
 abbrev pub reason_cause : ℕ → Page → ℕ → ℕ → Option ℕ
 reason_cause n p s t =
-    cause ((short_pairs p.sheet p.pairs, 6) ∷ (short_records p.sheet p.records, 6) ∷ (outside p.sheet s, 7) ∷ (outside p.sheet t, 7) ∷ (unlike n p.sheet p.pairs, 8)
+    cause ((short_pairs p.sheet p.pairs, 6) ∷ (short_records p.sheet p.records, 6)
+    ∷ (outside p.sheet s, 7) ∷ (outside p.sheet t, 7) ∷ (unlike n p.sheet p.pairs, 8)
     ∷ (stands n p.pairs s t, 10) ∷ (not (is_some (record_of p s t)), 10) ∷ [])
 
 abbrev pub answer_cause : {L : Type 0} → Meaning L → Sheet → List ℕ → ℕ → ℕ → ℕ → ℕ → Option ℕ
 answer_cause m sheet pairs room s t u =
-    cause ((short_pairs sheet pairs, 6) ∷ (nat_lt room sheet.count, 6) ∷ (outside sheet s, 7) ∷ (outside sheet t, 7) ∷ (outside sheet u, 7) ∷ (unlike (states m) sheet pairs, 8) ∷ (not sheet.settled, 9)
+    cause ((short_pairs sheet pairs, 6) ∷ (nat_lt room sheet.count, 6)
+    ∷ (outside sheet s, 7) ∷ (outside sheet t, 7) ∷ (outside sheet u, 7)
+    ∷ (unlike (states m) sheet pairs, 8) ∷ (not sheet.settled, 9)
     ∷ (not (stands (states m) pairs s t), 10) ∷ (not (m.step s u), 11) ∷ (not (answered m pairs s u t), 11) ∷ [])

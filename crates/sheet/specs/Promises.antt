@@ -29,7 +29,8 @@ module _ {L : Type 0} (on : Setting L) where
   Says p (Sweep s) a = Unit {0}
   Says p Settle a = (k l : ℕ) → a ≡ Ok (Settled k l) → (p.sheet.settled ≡ true) × Largest on p.pairs
   Says p (Class s) a = (c : ℕ) → a ≡ Ok (ClassIs c) → Represents on s c
-  Says p (Below s t) a = (b : Bool) → a ≡ Ok (IsBelow b) → (T b ↔ Entails on.at_most on.machine s t) × (b ≡ false → IsStruck (held p) s t)
+  Says p (Below s t) a = (b : Bool) → a ≡ Ok (IsBelow b) →
+      (T b ↔ Entails on.at_most on.machine s t) × (b ≡ false → IsStruck (held p) s t)
   Says p (Reason s t) a = (k : Strike) → a ≡ Ok (ReasonIs k) → Shown on (held p) s t k
   Says p (Answer s t u) a = (k : ℕ) (memory : List ℕ) → a ≡ Ok (Walked k memory) → Answering on s t u k memory
 
@@ -42,12 +43,14 @@ module _ {L : Type 0} (on : Setting L) where
   Given p (Below s t) a = p.sheet.settled ≡ true → s < size on → t < size on → (b : Bool) × (a ≡ Ok (IsBelow b))
   Given p (Reason s t) a = IsStruck (held p) s t → (k : Strike) × (a ≡ Ok (ReasonIs k))
   Given p (Answer s t u) a =
-      p.sheet.settled ≡ true → Step on.machine s u → t < size on → T (stands (size on) p.pairs s t) → (k : ℕ) × (memory : List ℕ) × (a ≡ Ok (Walked k memory))
+      p.sheet.settled ≡ true → Step on.machine s u → t < size on → T (stands (size on) p.pairs s t) →
+      (k : ℕ) × (memory : List ℕ) × (a ≡ Ok (Walked k memory))
 
   -- A struck pair stays struck, and on a settled page nothing is struck.
   abbrev pub Rests : Page → Request → Replied → Type 0
   Rests p (Try s t) a =
-      (v : Verdict) → a ≡ Ok (Tried v) → (IsStruck (held p) s t → v ≡ StaysStruck) × (p.sheet.settled ≡ true → (k : Strike) → v ≢ Struck k)
+      (v : Verdict) → a ≡ Ok (Tried v) → (IsStruck (held p) s t → v ≡ StaysStruck)
+      × (p.sheet.settled ≡ true → (k : Strike) → v ≢ Struck k)
   Rests p (Sweep s) a = (k : ℕ) → a ≡ Ok (Swept k) → p.sheet.settled ≡ true → k ≡ 0
   Rests p Settle a = (k l : ℕ) → a ≡ Ok (Settled k l) → p.sheet.settled ≡ true → (k ≡ 0) × (l ≡ 1)
   Rests p (Class s) a = Unit {0}
@@ -55,6 +58,7 @@ module _ {L : Type 0} (on : Setting L) where
   Rests p (Reason s t) a = Unit {0}
   Rests p (Answer s t u) a = Unit {0}
 
+  -- All that is so after a call on a page that came about by strikes.
   pub record Kept (p : Page) (q : Request) (a : Replied) (after : Page) : Type 0 where
     pub onward : Onward p after
     pub says : Says after q a

@@ -23,7 +23,8 @@ blank_walk = replicate state_bound 0
 -- Each request was made in turn, on the page that the one before it left.
 pub record InTurn {L : Type 0} (on : Setting L) (pages : ℕ → Page) (requests : List Request) (replies : List Replied) (begun last : Page) : Type 0 where
   pub begins : pages zero ≡ begun
-  pub turn : (i : ℕ) (q : Request) (a : Replied) → Asked requests replies i q a → RepliesInto on blank_walk (pages i) q a (pages (suc i))
+  pub turn : (i : ℕ) (q : Request) (a : Replied) → Asked requests replies i q a →
+      RepliesInto on blank_walk (pages i) q a (pages (suc i))
   pub ends : pages (length replies) ≡ last
 
 -- There is a reply to each request, made in turn, the law of the pages holds, and the places past the replies are untouched.
@@ -35,7 +36,8 @@ pub record Ran {L : Type 0} (on : Setting L) (requests : List Request) (before a
   pub law : PageLaw on pages requests (take (length requests) after)
 
 -- A refusal changes nothing; else the requests ran, from a page that was just begun to the sheet and memory at the end.
-abbrev pub Runs : {L : Type 0} → Setting L → List ℕ → List Strike → List Request → List Replied → Result Sheet Refusal → List ℕ → List Strike → List Replied → Type 0
+abbrev pub Runs : {L : Type 0} → Setting L → List ℕ → List Strike → List Request → List Replied → Result Sheet Refusal →
+    List ℕ → List Strike → List Replied → Type 0
 Runs on pairs records requests replies r pairs_after records_after replies_after =
     Checked (cause (run_tests (size on) pairs records requests replies)) ((pairs_after ≡ pairs) × (records_after ≡ records) × (replies_after ≡ replies))
     (λ sheet. Ran on requests replies replies_after (begun_page (size on) pairs records) (page sheet pairs_after records_after)) r

@@ -49,7 +49,7 @@ module _ {L : Type 0} (on : Setting L) where
     pub counted : k ≡ length (visited walk)
     pub written : take k memory ≡ visited walk
 
-  -- What stands is a simulation, and every simulation is contained in it.
+  -- What stands is a simulation, and every simulation that is a test is contained in it.
   pub record Largest (pairs : List ℕ) : Type 0 where
     pub simulation : Simulation on.at_most on.machine (λ s t. T (stands (size on) pairs s t))
     pub contains : (r : ℕ → ℕ → Bool) → Simulation on.at_most on.machine (λ s t. T (r s t)) →

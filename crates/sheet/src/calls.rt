@@ -14,7 +14,7 @@ ghost use Rattle.sheet.specs.Replies.{reply};
 ghost use Rattle.sheet.specs.Promises.{Promise, CameUnderAll, PromiseUnderAll};
 
 use crate::lookup::class_of;
-use crate::memory::StrikeMemory;
+use crate::memory::{StrikeMemory, StrikeRecords};
 use crate::setting::Setting;
 use crate::sheet::Sheet;
 use crate::verdict::Verdict;
@@ -24,13 +24,13 @@ use strikes::Strike;
 
 impl Sheet {
     /// Begins a sheet: every pair stands, and nothing is struck. The strike memory is untouched.
-    pub fn begin<M: Machine, S: StrikeMemory>(
+    pub fn begin<M: Machine, S: StrikeRecords>(
         machine: &M,
         pairs: &mut [u8],
         strikes: &S,
     ) -> Result<Sheet, Refusal>
-        ensures answer { Begins (states (M.Machine.meaning machine.now)) pairs.old (S.StrikeMemory.records strikes.now) result pairs.new }
-        ensures came { IfOk result (λ sheet. CameUnderAll (M.Machine.meaning machine.now) (page sheet pairs.new (S.StrikeMemory.records strikes.now))) }
+        ensures answer { Begins (states (M.Machine.meaning machine.now)) pairs.old (S.StrikeRecords.records strikes.now) result pairs.new }
+        ensures came { IfOk result (λ sheet. CameUnderAll (M.Machine.meaning machine.now) (page sheet pairs.new (S.StrikeRecords.records strikes.now))) }
     {
         let n = machine.count();
         if n == 0 {
@@ -56,8 +56,8 @@ impl Sheet {
         s: usize,
         t: usize,
     ) -> Result<Verdict, Refusal>
-        ensures answer { Tries (setting (O.Order.relation on.now.order.now) (M.Machine.meaning on.now.machine.now)) (page self.old pairs.old (S.StrikeMemory.records strikes.old)) s t result (page self.new pairs.new (S.StrikeMemory.records strikes.new)) }
-        ensures promise { Promise (setting (O.Order.relation on.now.order.now) (M.Machine.meaning on.now.machine.now)) (page self.old pairs.old (S.StrikeMemory.records strikes.old)) (Try s t) (reply Tried result) (page self.new pairs.new (S.StrikeMemory.records strikes.new)) }
+        ensures answer { Tries (setting (O.Order.relation on.now.order.now) (M.Machine.meaning on.now.machine.now)) (page self.old pairs.old (S.StrikeRecords.records strikes.old)) s t result (page self.new pairs.new (S.StrikeRecords.records strikes.new)) }
+        ensures promise { Promise (setting (O.Order.relation on.now.order.now) (M.Machine.meaning on.now.machine.now)) (page self.old pairs.old (S.StrikeRecords.records strikes.old)) (Try s t) (reply Tried result) (page self.new pairs.new (S.StrikeRecords.records strikes.new)) }
         ensures filled { S.StrikeMemory.filled self.old.strikes self.new.strikes strikes.old strikes.new }
     {
         self.check_page(on.machine, pairs, strikes, &[s, t])?;
@@ -74,8 +74,8 @@ impl Sheet {
         strikes: &mut S,
         s: usize,
     ) -> Result<usize, Refusal>
-        ensures answer { Sweeps (setting (O.Order.relation on.now.order.now) (M.Machine.meaning on.now.machine.now)) (page self.old pairs.old (S.StrikeMemory.records strikes.old)) s result (page self.new pairs.new (S.StrikeMemory.records strikes.new)) }
-        ensures promise { Promise (setting (O.Order.relation on.now.order.now) (M.Machine.meaning on.now.machine.now)) (page self.old pairs.old (S.StrikeMemory.records strikes.old)) (Sweep s) (reply Swept result) (page self.new pairs.new (S.StrikeMemory.records strikes.new)) }
+        ensures answer { Sweeps (setting (O.Order.relation on.now.order.now) (M.Machine.meaning on.now.machine.now)) (page self.old pairs.old (S.StrikeRecords.records strikes.old)) s result (page self.new pairs.new (S.StrikeRecords.records strikes.new)) }
+        ensures promise { Promise (setting (O.Order.relation on.now.order.now) (M.Machine.meaning on.now.machine.now)) (page self.old pairs.old (S.StrikeRecords.records strikes.old)) (Sweep s) (reply Swept result) (page self.new pairs.new (S.StrikeRecords.records strikes.new)) }
         ensures filled { S.StrikeMemory.filled self.old.strikes self.new.strikes strikes.old strikes.new }
     {
         self.check_page(on.machine, pairs, strikes, &[s])?;
@@ -86,15 +86,15 @@ impl Sheet {
     }
 
     /// Sweeps all rows, pass after pass, until a whole pass strikes nothing; marks the sheet settled. Answers
-    /// the strikes made and the passes taken.
+    /// how many strikes it made, and the passes taken.
     pub fn settle<M: Machine, O: Order<Label = M::Label>, S: StrikeMemory>(
         &mut self,
         on: &Setting<M, O>,
         pairs: &mut [u8],
         strikes: &mut S,
     ) -> Result<(usize, usize), Refusal>
-        ensures answer { Settles (setting (O.Order.relation on.now.order.now) (M.Machine.meaning on.now.machine.now)) (page self.old pairs.old (S.StrikeMemory.records strikes.old)) result (page self.new pairs.new (S.StrikeMemory.records strikes.new)) }
-        ensures promise { Promise (setting (O.Order.relation on.now.order.now) (M.Machine.meaning on.now.machine.now)) (page self.old pairs.old (S.StrikeMemory.records strikes.old)) Settle (reply (λ a. Settled a.0 a.1) result) (page self.new pairs.new (S.StrikeMemory.records strikes.new)) }
+        ensures answer { Settles (setting (O.Order.relation on.now.order.now) (M.Machine.meaning on.now.machine.now)) (page self.old pairs.old (S.StrikeRecords.records strikes.old)) result (page self.new pairs.new (S.StrikeRecords.records strikes.new)) }
+        ensures promise { Promise (setting (O.Order.relation on.now.order.now) (M.Machine.meaning on.now.machine.now)) (page self.old pairs.old (S.StrikeRecords.records strikes.old)) Settle (reply (λ a. Settled a.0 a.1) result) (page self.new pairs.new (S.StrikeRecords.records strikes.new)) }
         ensures filled { S.StrikeMemory.filled self.old.strikes self.new.strikes strikes.old strikes.new }
     {
         self.check_page(on.machine, pairs, strikes, &[])?;
@@ -130,7 +130,7 @@ impl Sheet {
     }
 
     /// The first strike record of the pair (s, t), where it is struck.
-    pub fn reason<M: Machine, S: StrikeMemory>(
+    pub fn reason<M: Machine, S: StrikeRecords>(
         &self,
         machine: &M,
         pairs: &[u8],
@@ -138,8 +138,8 @@ impl Sheet {
         s: usize,
         t: usize,
     ) -> Result<Strike, Refusal>
-        ensures answer { Reasons (states (M.Machine.meaning machine.now)) (page self.now pairs.now (S.StrikeMemory.records strikes.now)) s t result }
-        ensures promise { PromiseUnderAll (M.Machine.meaning machine.now) (page self.now pairs.now (S.StrikeMemory.records strikes.now)) (Reason s t) (reply ReasonIs result) }
+        ensures answer { Reasons (states (M.Machine.meaning machine.now)) (page self.now pairs.now (S.StrikeRecords.records strikes.now)) s t result }
+        ensures promise { PromiseUnderAll (M.Machine.meaning machine.now) (page self.now pairs.now (S.StrikeRecords.records strikes.now)) (Reason s t) (reply ReasonIs result) }
     {
         self.check_page(machine, pairs, strikes, &[s, t])?;
         self.record_of(pairs, strikes, s, t)

@@ -6,7 +6,7 @@ ghost use Rattle.sheet.specs.Memory.{standing};
 ghost use Rattle.sheet.specs.Pages.{page, unlike};
 ghost use Rattle.sheet.specs.Causes.{any_outside, sheet_tests, page_tests, settled_tests};
 
-use crate::memory::StrikeMemory;
+use crate::memory::StrikeRecords;
 use crate::sheet::Sheet;
 use model::{Machine, Refusal};
 
@@ -56,14 +56,14 @@ impl Sheet {
     }
 
     /// The same, and refuses short strike memory.
-    pub(crate) fn check_page<M: Machine, S: StrikeMemory>(
+    pub(crate) fn check_page<M: Machine, S: StrikeRecords>(
         &self,
         machine: &M,
         pairs: &[u8],
         strikes: &S,
         numbers: &[usize],
     ) -> Result<(), Refusal>
-        ensures { Passes (page_tests (states (M.Machine.meaning machine.now)) (page self.now pairs.now (S.StrikeMemory.records strikes.now)) numbers.now) result }
+        ensures { Passes (page_tests (states (M.Machine.meaning machine.now)) (page self.now pairs.now (S.StrikeRecords.records strikes.now)) numbers.now) result }
     {
         if self.is_short(strikes.room()) {
             return Err(Refusal::ShortMemory);

@@ -19,7 +19,7 @@ mod striking;
 pub mod verdict;
 mod walking;
 
-pub use memory::{StrikeMemory, StrikeSlice};
+pub use memory::{StrikeMemory, StrikeRecords, StrikeSlice};
 pub use request::{Reply, Request};
 pub use run::run_requests;
 pub use setting::Setting;

@@ -3,7 +3,7 @@ ghost use Rattle.std.specs.Prelude.{◌≡◌, ◌<◌, take};
 ghost use Rattle.sheet.specs.Pages.{page, first_naming};
 ghost use Rattle.sheet.specs.Calls.{are_alike, class_of, ShowsRecord};
 
-use crate::memory::StrikeMemory;
+use crate::memory::StrikeRecords;
 use crate::sheet::Sheet;
 use model::Refusal;
 use strikes::Strike;
@@ -27,8 +27,8 @@ pub(crate) fn class_of(rows: Rows, s: usize) -> usize
 }
 
 /// The first of the first `made` records that names the pair (s, t).
-fn first_naming<S: StrikeMemory>(strikes: &S, made: usize, s: usize, t: usize) -> Option<Strike>
-    ensures { result ≡ first_naming (take made (S.StrikeMemory.records strikes.now)) s t }
+fn first_naming<S: StrikeRecords>(strikes: &S, made: usize, s: usize, t: usize) -> Option<Strike>
+    ensures { result ≡ first_naming (take made (S.StrikeRecords.records strikes.now)) s t }
 {
     (0..made)
         .map_while(|k| strikes.record(k))
@@ -48,7 +48,7 @@ impl Sheet {
     }
 
     /// The first record of the pair (s, t), where it is struck.
-    pub(crate) fn record_of<S: StrikeMemory>(
+    pub(crate) fn record_of<S: StrikeRecords>(
         &self,
         pairs: &[u8],
         strikes: &S,
@@ -56,7 +56,7 @@ impl Sheet {
         t: usize,
     ) -> Result<Strike, Refusal>
         requires { t < self.now.count }
-        ensures { ShowsRecord self.now.count (page self.now pairs.now (S.StrikeMemory.records strikes.now)) s t result }
+        ensures { ShowsRecord self.now.count (page self.now pairs.now (S.StrikeRecords.records strikes.now)) s t result }
     {
         if self.rows(pairs).is_marked(s, t) {
             return Err(Refusal::OtherPair);

@@ -6,17 +6,10 @@ ghost use Rattle.sheet.specs.Lasting.{Lasting, by_name};
 
 use strikes::Strike;
 
-/// Places for strike records.
-pub trait StrikeMemory {
+/// Places for strike records, as they are read.
+pub trait StrikeRecords {
     /// What the places hold.
     ghost records: { Self → List StrikeRecord };
-
-    /// The one is a later state of the other's lent memory: the places from the first number on, to before the second, were
-    /// written since, each once and in turn, and no others.
-    ghost filled: { ℕ → ℕ → Self → Self → Type 0 };
-
-    /// No places at once, and more of them from state to state.
-    ghost lasting: { Lasting filled };
 
     /// How many places there are.
     fn room(&self) -> usize
@@ -25,11 +18,38 @@ pub trait StrikeMemory {
     /// The record at place `k`, or nothing where there is no such place.
     fn record(&self, k: usize) -> Option<Strike>
         ensures { result ≡ slice_get (records self.now) k };
+}
+
+/// Places for strike records that may be written.
+pub trait StrikeMemory: StrikeRecords {
+    /// What the lender wants to know of a later state of its memory, where the places from the first number on, to before the
+    /// second, were written since, each once and in turn, and no others.
+    ghost filled: { ℕ → ℕ → Self → Self → Type 0 };
+
+    /// It holds where nothing was written, and of one stretch of writing after another.
+    ghost lasting: { Lasting filled };
 
     /// Writes place `k`, and nothing where there is no such place.
     fn write(&mut self, k: usize, strike: Strike)
-        ensures written { records self.new ≡ slice_set (records self.old) k strike }
+        ensures written { Self.records self.new ≡ slice_set (Self.records self.old) k strike }
         ensures filled { filled k (k + 1) self.old self.new };
+}
+
+/// A slice of records that is only read.
+impl<'a> StrikeRecords for &'a [Strike] {
+    ghost records = { λ s. s.now };
+
+    fn room(&self) -> usize
+        ensures { result ≡ length self.now.now }
+    {
+        self.len()
+    }
+
+    fn record(&self, k: usize) -> Option<Strike>
+        ensures { result ≡ slice_get self.now.now k }
+    {
+        self.get(k).copied()
+    }
 }
 
 /// A lent slice of records.
@@ -38,12 +58,8 @@ pub struct StrikeSlice<'a> {
     pub items: &'a mut [Strike],
 }
 
-impl<'a> StrikeMemory for StrikeSlice<'a> {
+impl<'a> StrikeRecords for StrikeSlice<'a> {
     ghost records = { λ s. s.items.now };
-
-    ghost filled = { λ _ _ a b. b.items.ghost_name ≡ a.items.ghost_name };
-
-    ghost lasting = { by_name (λ a. a.items.ghost_name) };
 
     fn room(&self) -> usize
         ensures { result ≡ length self.now.items.now }
@@ -56,6 +72,12 @@ impl<'a> StrikeMemory for StrikeSlice<'a> {
     {
         self.items.get(k).copied()
     }
+}
+
+impl<'a> StrikeMemory for StrikeSlice<'a> {
+    ghost filled = { λ _ _ a b. b.items.ghost_name ≡ a.items.ghost_name };
+
+    ghost lasting = { by_name (λ a. a.items.ghost_name) };
 
     fn write(&mut self, k: usize, strike: Strike)
         ensures written { self.new.items.now ≡ slice_set self.old.items.now k strike }

@@ -38,7 +38,7 @@ impl Sheet {
         strikes: &mut S,
         request: Request,
     ) -> Result<Reply, Refusal>
-        ensures answer { RepliesInto (setting (O.Order.relation on.now.order.now) (M.Machine.meaning on.now.machine.now)) blank_walk (page self.old pairs.old (S.StrikeMemory.records strikes.old)) request result (page self.new pairs.new (S.StrikeMemory.records strikes.new)) }
+        ensures answer { RepliesInto (setting (O.Order.relation on.now.order.now) (M.Machine.meaning on.now.machine.now)) blank_walk (page self.old pairs.old (S.StrikeRecords.records strikes.old)) request result (page self.new pairs.new (S.StrikeRecords.records strikes.new)) }
         ensures filled { S.StrikeMemory.filled self.old.strikes self.new.strikes strikes.old strikes.new }
     {
         match request {
@@ -68,8 +68,8 @@ pub fn run_requests<M: Machine, O: Order<Label = M::Label>, S: StrikeMemory>(
     requests: &[Request],
     replies: &mut [Result<Reply, Refusal>],
 ) -> Result<Sheet, Refusal>
-    ensures answer { Runs (setting (O.Order.relation on.now.order.now) (M.Machine.meaning on.now.machine.now)) pairs.old (S.StrikeMemory.records strikes.old) requests.now replies.old result pairs.new (S.StrikeMemory.records strikes.new) replies.new }
-    ensures law { IfOk result (λ sheet. Law (setting (O.Order.relation on.now.order.now) (M.Machine.meaning on.now.machine.now)) (page sheet pairs.new (S.StrikeMemory.records strikes.new)) requests.now (take (length requests.now) replies.new)) }
+    ensures answer { Runs (setting (O.Order.relation on.now.order.now) (M.Machine.meaning on.now.machine.now)) pairs.old (S.StrikeRecords.records strikes.old) requests.now replies.old result pairs.new (S.StrikeRecords.records strikes.new) replies.new }
+    ensures law { IfOk result (λ sheet. Law (setting (O.Order.relation on.now.order.now) (M.Machine.meaning on.now.machine.now)) (page sheet pairs.new (S.StrikeRecords.records strikes.new)) requests.now (take (length requests.now) replies.new)) }
     ensures filled { S.StrikeMemory.filled 0 (strikes_after result) strikes.old strikes.new }
 {
     if on.machine.count() == 0 {
@@ -79,7 +79,7 @@ pub fn run_requests<M: Machine, O: Order<Label = M::Label>, S: StrikeMemory>(
         return Err(Refusal::ShortMemory);
     }
     let mut sheet = Sheet::begin(on.machine, pairs, strikes)?;
-    // By place: tried by `zip` with `iter_mut`, of whose writes nothing is known.
+    // By place, since nothing is known of the writes of `zip` with `iter_mut`.
     for (k, request) in requests.iter().enumerate() {
         replies[k] = sheet.make(on, pairs, strikes, *request);
     }

@@ -30,7 +30,7 @@ impl<'a, M: Machine, O: Order<Label = M::Label>> Setting<'a, M, O> {
         requires second { t < states (M.Machine.meaning self.now.machine.now) }
         requires room { states (M.Machine.meaning self.now.machine.now) * states (M.Machine.meaning self.now.machine.now) ≤ length pairs.old }
         ensures verdict { result ≡ verdict_of (setting (O.Order.relation self.now.order.now) (M.Machine.meaning self.now.machine.now)) pairs.old s t }
-        ensures after { held pairs.new (S.StrikeMemory.records strikes.new) (made + strikes_in result) ≡ tried (setting (O.Order.relation self.now.order.now) (M.Machine.meaning self.now.machine.now)) (held pairs.old (S.StrikeMemory.records strikes.old) made) s t }
+        ensures after { held pairs.new (S.StrikeRecords.records strikes.new) (made + strikes_in result) ≡ tried (setting (O.Order.relation self.now.order.now) (M.Machine.meaning self.now.machine.now)) (held pairs.old (S.StrikeRecords.records strikes.old) made) s t }
         ensures filled { S.StrikeMemory.filled made (made + strikes_in result) strikes.old strikes.new }
     {
         let n = self.machine.count();
@@ -60,8 +60,8 @@ impl<'a, M: Machine, O: Order<Label = M::Label>> Setting<'a, M, O> {
         s: usize,
     ) -> usize
         requires first { s < states (M.Machine.meaning self.now.machine.now) }
-        requires ready { Ready (states (M.Machine.meaning self.now.machine.now)) (held pairs.old (S.StrikeMemory.records strikes.old) made) }
-        ensures after { held pairs.new (S.StrikeMemory.records strikes.new) result ≡ swept (setting (O.Order.relation self.now.order.now) (M.Machine.meaning self.now.machine.now)) (held pairs.old (S.StrikeMemory.records strikes.old) made) s (states (M.Machine.meaning self.now.machine.now)) }
+        requires ready { Ready (states (M.Machine.meaning self.now.machine.now)) (held pairs.old (S.StrikeRecords.records strikes.old) made) }
+        ensures after { held pairs.new (S.StrikeRecords.records strikes.new) result ≡ swept (setting (O.Order.relation self.now.order.now) (M.Machine.meaning self.now.machine.now)) (held pairs.old (S.StrikeRecords.records strikes.old) made) s (states (M.Machine.meaning self.now.machine.now)) }
         ensures filled { S.StrikeMemory.filled made result strikes.old strikes.new }
     {
         let mut done = made;
@@ -73,8 +73,8 @@ impl<'a, M: Machine, O: Order<Label = M::Label>> Setting<'a, M, O> {
 
     /// Sweeps every row once; answers how many strikes there are then.
     fn pass<S: StrikeMemory>(&self, pairs: &mut [u8], strikes: &mut S, made: usize) -> usize
-        requires { Ready (states (M.Machine.meaning self.now.machine.now)) (held pairs.old (S.StrikeMemory.records strikes.old) made) }
-        ensures after { held pairs.new (S.StrikeMemory.records strikes.new) result ≡ passed (setting (O.Order.relation self.now.order.now) (M.Machine.meaning self.now.machine.now)) (held pairs.old (S.StrikeMemory.records strikes.old) made) (states (M.Machine.meaning self.now.machine.now)) }
+        requires { Ready (states (M.Machine.meaning self.now.machine.now)) (held pairs.old (S.StrikeRecords.records strikes.old) made) }
+        ensures after { held pairs.new (S.StrikeRecords.records strikes.new) result ≡ passed (setting (O.Order.relation self.now.order.now) (M.Machine.meaning self.now.machine.now)) (held pairs.old (S.StrikeRecords.records strikes.old) made) (states (M.Machine.meaning self.now.machine.now)) }
         ensures filled { S.StrikeMemory.filled made result strikes.old strikes.new }
     {
         let mut done = made;
@@ -92,8 +92,8 @@ impl<'a, M: Machine, O: Order<Label = M::Label>> Setting<'a, M, O> {
         strikes: &mut S,
         made: usize,
     ) -> (usize, usize)
-        requires { Ready (states (M.Machine.meaning self.now.machine.now)) (held pairs.old (S.StrikeMemory.records strikes.old) made) }
-        ensures after { (held pairs.new (S.StrikeMemory.records strikes.new) result.0, result.1) ≡ settled (setting (O.Order.relation self.now.order.now) (M.Machine.meaning self.now.machine.now)) (held pairs.old (S.StrikeMemory.records strikes.old) made) }
+        requires { Ready (states (M.Machine.meaning self.now.machine.now)) (held pairs.old (S.StrikeRecords.records strikes.old) made) }
+        ensures after { (held pairs.new (S.StrikeRecords.records strikes.new) result.0, result.1) ≡ settled (setting (O.Order.relation self.now.order.now) (M.Machine.meaning self.now.machine.now)) (held pairs.old (S.StrikeRecords.records strikes.old) made) }
         ensures filled { S.StrikeMemory.filled made result.0 strikes.old strikes.new }
     {
         let mut done = made;

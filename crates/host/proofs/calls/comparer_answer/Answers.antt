@@ -26,5 +26,5 @@ returns-in-Ok c =
     (record {
       answer = carried (λ m sheet r. Answers m sheet c.args.pairs.now c.args.s c.args.t c.args.u c.args.walk.now r c.answer.new.walk) c.new-machine.ensures c.sheet_in.ensures c.in-Ok.is c.answer.ensures.answer;
       promise = carried (λ m sheet r. states m ≤ length c.args.walk.now → (records : List Strike) → PromiseUnderAll m (page sheet c.args.pairs.now records) (Answer c.args.s c.args.t c.args.u) (reply (λ k. Walked k c.answer.new.walk) r)) c.new-machine.ensures c.sheet_in.ensures c.in-Ok.is (λ places records. c.answer.ensures.promise records places);
-      left = tt;
+      leaves = tt;
     }) refl c.lay.ensures

@@ -23,5 +23,5 @@ returns-in-Ok c =
     (record {
       answer = carried (λ m sheet r. Classes (states m) sheet c.args.pairs.now c.args.s r) c.new-machine.ensures c.sheet_in.ensures c.in-Ok.is c.class.ensures.answer;
       promise = carried (λ m sheet r. (records : List Strike) → PromiseUnderAll m (page sheet c.args.pairs.now records) (Class c.args.s) (reply ClassIs r)) c.new-machine.ensures c.sheet_in.ensures c.in-Ok.is c.class.ensures.promise;
-      left = tt;
+      leaves = tt;
     }) refl c.lay.ensures

@@ -1,12 +1,13 @@
 use Rattle.std.proofs.Common.{Ok, refl, sym, ap, ◌∙◌, rules}
 use Rattle.model.specs.Orders.{flags_at_most}
+use Rattle.model.specs.Memory.{over}
 use Rattle.sheet.specs.declared.request.Request.TheVariants.{Sweep}
 use Rattle.sheet.specs.declared.request.Reply.TheVariants.{Swept}
 use Rattle.sheet.specs.Verdicts.{setting}
 use Rattle.sheet.specs.Calls.{Sweeps}
 use Rattle.sheet.specs.Replies.{reply}
 use Rattle.sheet.specs.Promises.{Promise}
-use Rattle.host.specs.Bytes.{with_made, laid, table}
+use Rattle.host.specs.Bytes.{with_made, table}
 use Rattle.host.proofs.Pages.{meaning_of, page_on}
 use Rattle.host.proofs.Bounds.{sweep_small}
 use Rattle.host.proofs.Hosting.{hosted}
@@ -30,4 +31,4 @@ returns-in-Ok c =
     (struck (λ m p r after. Sweeps (setting flags_at_most m) p c.args.s r after) (λ m p r after. Promise (setting flags_at_most m) p (Sweep c.args.s) (reply Swept r) after) with_made
     t (meaning_of c.new-machine.result) c.args.sheet.now c.args.pairs.now c.args.strikes.now c.write_made.new.area c.sweep.new.pairs _ c.sweep.new.strikes.bytes.now c.sheet_in-now.result c.sweep.new.self c.sweep.result c.in-Ok.struck _ c.sweep.new.strikes.bytes.ghost_name
     c.new-machine.ensures c.sheet_in-now.ensures c.in-Ok.is read c.write_made.ensures (search rules) c.sweep.ensures.filled small.room c.sweep.ensures.answer c.sweep.ensures.promise)
-    refl (c.lay.ensures ∙ ap (λ bytes. laid bytes c.args.answer.now) c.number_bytes.ensures)
+    refl (c.lay.ensures ∙ ap (λ bytes. over bytes c.args.answer.now) c.number_bytes.ensures)

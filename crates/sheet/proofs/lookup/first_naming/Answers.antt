@@ -8,7 +8,7 @@ use Rattle.sheet.proofs.lookup.first_naming.Goals as goal
 
 pub returns : goal.returns
 returns g c =
-    let records = g.S.StrikeMemory.records c.args.strikes.now in
+    let records = g.S.StrikeRecords.records c.args.strikes.now in
     sym (option_map_id c.find.result)
     ∙ find_from_yields_List (λ k. names k c.args.s c.args.t) _ _ c.find.result c.find.ensures.ran
     (YieldsList-from_reads _ records c.args.made c.map_while.ensures.source c.map_while.ensures.closure (λ k r q e. search (rules, tests))) (λ x b q k. search (rules, tests))

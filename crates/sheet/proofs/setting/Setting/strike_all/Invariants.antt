@@ -9,7 +9,7 @@ abbrev pub invariant-loop-done : goal.invariant-loop-done
 invariant-loop-done g l =
     let m = g.M.Machine.meaning l.self.machine.now in
     let on = setting (g.O.Order.relation l.self.order.now) m in
-    let records = g.S.StrikeMemory.records in
+    let records = g.S.StrikeRecords.records in
     let most = states m * states m + 1 in
     Ready (states m) (memory l.pairs (records l.strikes) l.done)
     × (l.passes + l.made ≤ l.done)

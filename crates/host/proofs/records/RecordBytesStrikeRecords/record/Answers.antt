@@ -1,6 +1,6 @@
 use Rattle.std.proofs.Common.{rules}
 use Rattle.host.proofs.ByFour.{read_four}
-use Rattle.host.proofs.records.RecordBytesStrikeMemory.record.Goals as goal
+use Rattle.host.proofs.records.RecordBytesStrikeRecords.record.Goals as goal
 
 pub returns : goal.returns
 returns c = search (rules, read_four)

@@ -1,7 +1,7 @@
 use Rattle.std.proofs.Common.{[], ◌∷◌, refl, sym, ap, ◌∙◌, rules, arith}
 use Rattle.host.specs.Bytes.{records_in}
 use Rattle.host.proofs.ByFour.{whole_record, written, unwritten, read_with_record}
-use Rattle.host.proofs.records.RecordBytesStrikeMemory.write.Goals as goal
+use Rattle.host.proofs.records.RecordBytesMutStrikeMemory.write.Goals as goal
 
 pub overflow_mul-at : goal.overflow_mul-at
 overflow_mul-at c = omega (arith, c.told-self, whole_record c.args.self.now.bytes.now c.args.k (omega arith))
