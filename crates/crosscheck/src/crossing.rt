@@ -36,7 +36,7 @@ pub(crate) struct Crossing {
 }
 
 impl Crossing {
-    /// All machines of up to three states with two kinds of labels, and then random ones.
+    /// All machines of up to three states with two kinds of labels, then random ones, and the one that takes many rounds.
     pub(crate) fn whole(heap: Global) -> Result<Counts, Stop> {
         let mut crossing = Crossing {
             heap,
@@ -47,6 +47,7 @@ impl Crossing {
             crossing.cross_counted(states, machines)?;
         }
         crossing.cross_random(RANDOM_MACHINES)?;
+        crossing.cross_sample(&Sample::slow(heap)?)?;
         Ok(crossing.counts)
     }
 

@@ -11,6 +11,8 @@ mod formulas;
 mod page;
 mod report;
 mod sample;
+#[cfg(test)]
+mod tests;
 
 use report::cross_check;
 use std::process::ExitCode;

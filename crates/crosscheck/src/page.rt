@@ -58,17 +58,14 @@ impl Page {
         self.sheet.class(machine, &self.pairs, s)
     }
 
-    /// Takes itself to be changed, as strike memory is lent so.
     pub(crate) fn reason<M: Machine>(
-        &mut self,
+        &self,
         machine: &M,
         s: usize,
         t: usize,
     ) -> Result<Strike, Refusal> {
-        let memory = StrikeSlice {
-            items: &mut self.strikes,
-        };
-        self.sheet.reason(machine, &self.pairs, &memory, s, t)
+        let records = self.strikes.as_slice();
+        self.sheet.reason(machine, &self.pairs, &records, s, t)
     }
 
     /// The strikes, in the order made.

@@ -6,11 +6,30 @@ use model::{FlagSet, Table};
 use std::alloc::{AllocError, Global};
 use std::fmt;
 
-/// The labels: the first and the third are at most the second, and neither of the other.
-const LABELS: [FlagSet; 3] = [
-    FlagSet { bits: 1 },
-    FlagSet { bits: 3 },
-    FlagSet { bits: 2 },
+/// One flag.
+const ONE: FlagSet = FlagSet { bits: 1 };
+
+/// Both flags: `ONE` and `OTHER` are within it.
+const BOTH: FlagSet = FlagSet { bits: 3 };
+
+/// The other flag.
+const OTHER: FlagSet = FlagSet { bits: 2 };
+
+/// The labels of two kinds are the first two.
+const LABELS: [FlagSet; 3] = [ONE, BOTH, OTHER];
+
+/// The labels of a machine for which the second comparer takes more rounds than there are states, under `Turned`.
+const SLOW_LABELS: [FlagSet; 6] = [BOTH, OTHER, OTHER, BOTH, BOTH, ONE];
+
+/// Its steps.
+#[rattlefmt::skip]
+const SLOW_STEPS: [u8; 36] = [
+    1, 0, 1, 1, 0, 0,
+    0, 1, 0, 0, 0, 0,
+    1, 0, 0, 0, 0, 0,
+    1, 0, 0, 1, 1, 0,
+    0, 1, 0, 1, 0, 1,
+    0, 1, 0, 0, 0, 1,
 ];
 
 /// What machines are made: how many states, of how many kinds of labels, and with one step of so many.
@@ -46,6 +65,14 @@ impl Sample {
             steps.push(u8::from(choices.pick(shape.sparsity) == 0))?;
         }
         Ok(Sample { labels, steps })
+    }
+
+    /// The machine that takes many rounds.
+    pub(crate) fn slow(heap: Global) -> Result<Sample, AllocError> {
+        Ok(Sample {
+            labels: SLOW_LABELS.to_vec(heap)?,
+            steps: SLOW_STEPS.to_vec(heap)?,
+        })
     }
 
     pub(crate) fn table(&self) -> Table<'_, FlagSet> {
