@@ -11,8 +11,8 @@
  *   pairs    n*n bytes: the pair (s, t) at s*n+t, 0 where it is struck
  *   strikes  four bytes for each of n*n strikes: s, t, 0 for label or 1 for step, and the state stepped to (0 for label)
  *
- * Each call but comparer_fits returns 0 where it went well, and else the number of its refusal, and then no area is written. A good
- * answer is written at the front of the area `answer`. */
+ * Each call but comparer_fits returns 0 where it went well, and else the number of its refusal, and then no area is
+ * written. A good answer is written at the front of the area `answer`. */
 #ifndef COMPARER_H
 #define COMPARER_H
 
