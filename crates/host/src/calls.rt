@@ -1,7 +1,7 @@
 //! The calls for programs in C. A byte area is passed as a pointer and its length.
 //!
-//! Each call but `comparer_fits` returns 0, or the number of its refusal, and writes a good answer at the front of the answer's area. It is
-//! refused as the call of the sheet is, and by 6 where the table or an area is too short; then it writes nothing.
+//! Each call but `comparer_fits` returns 0, or the number of its refusal, and writes a good answer at the front of the answer's
+//! area. It is refused as the call of the sheet is, and by 6 where the table or an area is too short; then it writes nothing.
 ghost use Rattle.host.specs.Bytes.{table, fits, areas};
 ghost use Rattle.std.specs.Prelude.{◌≡◌};
 ghost use Rattle.host.specs.Calls.{HostBegins, HostTries, HostSweeps, HostSettles, HostClasses, HostBelows, HostReasons, HostAnswers};
