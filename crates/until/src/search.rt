@@ -68,6 +68,9 @@ fn explore<M: Machine>(machine: &M, row: &[u8], start: usize) -> [Option<Visit>;
 pub fn reached<M: Machine>(machine: &M, row: &[u8], start: usize) -> [bool; STATE_BOUND]
     ensures { Reached (M.Machine.meaning machine.now) row.now start result }
 {
+    if start >= machine.count() {
+        return [false; STATE_BOUND];
+    }
     let found = explore(machine, row, start);
     array::from_fn(|u| found[u].is_some())
 }
@@ -95,7 +98,9 @@ fn nearest(found: &[Option<Visit>; STATE_BOUND], goal: &[u8]) -> Option<(usize, 
     ensures { Chosen (Marked goal.now) (visit found.now) result }
 {
     let mut best = None;
-    for (u, visit) in found.iter().enumerate() {
+    // Past the bytes of the goal nothing is marked.
+    let end = goal.len().min(STATE_BOUND);
+    for (u, visit) in found[..end].iter().enumerate() {
         if let Some(visit) = visit
             && marked(goal, u)
             && best.is_none_or(|(_, steps)| visit.steps < steps)
@@ -119,8 +124,12 @@ pub fn shortest_walk<M: Machine>(
 ) -> Result<Option<usize>, Refusal>
     ensures { SearchAnswers (M.Machine.meaning machine.now) row.now goal.now start walk.old result walk.new }
 {
-    if walk.len() < machine.count() {
+    let n = machine.count();
+    if walk.len() < n {
         return Err(Refusal::ShortMemory);
+    }
+    if start >= n {
+        return Ok(None);
     }
     let found = explore(machine, row, start);
     let Some((last, steps)) = nearest(&found, goal) else {
