@@ -56,7 +56,7 @@ same_class on s t c d x y = (
 )
 
 -- the pages up to place k, then another
-then_page : (ℕ → Page) → ℕ → Page → ℕ → Page
+pub then_page : (ℕ → Page) → ℕ → Page → ℕ → Page
 then_page pages k after i = cond (leb i k) (pages i) after
 
 page_before : (pages : ℕ → Page) (k : ℕ) (after : Page) (i : ℕ) → i ≤ k → then_page pages k after i ≡ pages i
@@ -71,7 +71,7 @@ module _ {L : Type 0} (on : Setting L) where
   pub in_turn_none : (requests : List Request) (begun : Page) → InTurn on (λ _. begun) requests [] begun begun
   in_turn_none requests begun = record { begins = refl; turn = λ i q a asked. absurd (none-some a asked.1); ends = refl }
 
-  in_turn_more : (pages : ℕ → Page) (requests : List Request) (replies : List Replied) (begun p after : Page) → InTurn on pages requests replies begun p →
+  pub in_turn_more : (pages : ℕ → Page) (requests : List Request) (replies : List Replied) (begun p after : Page) → InTurn on pages requests replies begun p →
       (q : Request) (a : Replied) → slice_get requests (length replies) ≡ Some q → RepliesInto on blank_walk p q a after → InTurn on (then_page pages (length replies) after) requests (replies ++ a ∷ []) begun after
   in_turn_more pages requests replies begun p after run q a next replied = record {
     begins = page_before pages k after zero (omega arith) ∙ run.begins;
@@ -106,17 +106,17 @@ module _ {L : Type 0} (on : Setting L) where
     asked_low : (i : ℕ) (q : Request) (a : Replied) → Asked requests replies i q a → i < length replies
     asked_low i q a asked = slice_get_within replies i a asked.1
 
-    came_at : (i : ℕ) → i ≤ length replies → Came on (pages i)
+    pub came_at : (i : ℕ) → i ≤ length replies → Came on (pages i)
     came_at zero h = came
     came_at (suc i) h =
         let q = nth_some requests i (omega (arith, few)) in
         let a = nth_some replies i (omega arith) in
         (kept on bounded (pages i) (came_at i (omega arith)) laws q.0 a.0 (pages (suc i)) (turn i q.0 a.0 (q.1, a.1))).onward.came
 
-    kept_at : (i : ℕ) (q : Request) (a : Replied) → Asked requests replies i q a → Kept on (pages i) q a (pages (suc i))
+    pub kept_at : (i : ℕ) (q : Request) (a : Replied) → Asked requests replies i q a → Kept on (pages i) q a (pages (suc i))
     kept_at i q a asked = kept on bounded (pages i) (came_at i (omega (arith, asked_low i q a asked))) laws q a (pages (suc i)) (turn i q a asked)
 
-    onward_at : (i j : ℕ) → i ≤ j → j ≤ length replies → Onward on (pages i) (pages j)
+    pub onward_at : (i j : ℕ) → i ≤ j → j ≤ length replies → Onward on (pages i) (pages j)
     onward_at i zero h l = let e : i ≡ zero = omega arith in subst (λ k. Onward on (pages k) (pages zero)) (sym e) (onward_self on (pages zero) (came_at zero l))
     onward_at i (suc j) h l =
         let q = nth_some requests j (omega (arith, few)) in
@@ -126,14 +126,14 @@ module _ {L : Type 0} (on : Setting L) where
         (λ e. onward_then on (pages i) (pages j) (pages (suc j)) (onward_at i j (omega (arith, h, e)) (omega arith)) (kept_at j q.0 a.0 (q.1, a.1)).onward)
         (cases_eq i (suc j))
 
-    says_at : (i j : ℕ) (q : Request) (a : Replied) → i < j → j ≤ length replies → Asked requests replies i q a → Says on (pages j) q a
+    pub says_at : (i j : ℕ) (q : Request) (a : Replied) → i < j → j ≤ length replies → Asked requests replies i q a → Says on (pages j) q a
     says_at i j q a h l asked = says_later on (pages (suc i)) (pages j) (onward_at (suc i) j h l) q a (kept_at i q a asked).says
 
-    settled_at : (i j : ℕ) (b : Replied) → i < j → j ≤ length replies → Asked requests replies i Settle b → (pages j).sheet.settled ≡ true
+    pub settled_at : (i j : ℕ) (b : Replied) → i < j → j ≤ length replies → Asked requests replies i Settle b → (pages j).sheet.settled ≡ true
     settled_at i j b h l asked = let g = (kept_at i Settle b asked).given in (says_at i j Settle b h l asked g.0 g.1 g.2).0
 
     -- the page on which a later request was made is settled
-    was_settled : (i j : ℕ) (b : Replied) (q : Request) (a : Replied) → i < j → Asked requests replies i Settle b → Asked requests replies j q a → (pages j).sheet.settled ≡ true
+    pub was_settled : (i j : ℕ) (b : Replied) (q : Request) (a : Replied) → i < j → Asked requests replies i Settle b → Asked requests replies j q a → (pages j).sheet.settled ≡ true
     was_settled i j b q a h x y = settled_at i j b h (omega (arith, asked_low j q a y)) x
 
     -- what an earlier reply said, on the page on which a later request was made
@@ -193,7 +193,7 @@ module _ {L : Type 0} (on : Setting L) where
     replied_law : Law on last requests replies
     replied_law = subst (λ p. Law on p requests replies) run.ends (running_law bounded laws pages requests replies begins few turn)
 
-    in_turn_law : PageLaw on pages requests replies
+    pub in_turn_law : PageLaw on pages requests replies
     in_turn_law = record {
       shown_there = λ i s t k x. subst (λ p. Says on p (Reason s t) (Ok (ReasonIs k))) (unmoved i s t (Ok (ReasonIs k)) x) (kept_in i (Reason s t) (Ok (ReasonIs k)) x).says k refl;
       standing_walks_given = λ i j s t u a b h x y. (kept_in j (Answer s t u) a y).given (was_settled bounded laws pages requests replies begins few turn i j b (Answer s t u) a h x y);

@@ -13,7 +13,7 @@ use Rattle.until.specs.Filled.{HoldsBy}
 use Rattle.until.proofs.Walks.{walk_map}
 use Rattle.until.proofs.RowBytes.{row_byte}
 
-two_earlier : (i j k : ℕ) → (ltb i k && ltb j k) ≡ true → (i < k) × (j < k)
+pub two_earlier : (i j k : ℕ) → (ltb i k && ltb j k) ≡ true → (i < k) × (j < k)
 two_earlier i j k e = let both = and_parts (ltb i k) (ltb j k) e in (ltb-true i k both.0, ltb-true j k both.1)
 
 module _ {L : Type 0} where

@@ -29,6 +29,11 @@ module _ {S : ℕ → ℕ → Type 0} {ok : ℕ → Type 0} where
   walk_there {Q} q (stop e) = stop (subst Q (sym e) q)
   walk_there q (go p e w) = go p e (walk_there q w)
 
+  -- a walk from a state ends at a state
+  pub walk_within : {n u s : ℕ} → ((a b : ℕ) → S a b → b < n) → s < n → To S ok s u → u < n
+  walk_within {n} inside l (stop e) = subst (λ v. v < n) e l
+  walk_within inside l (go {u = v} p e w) = walk_within inside (inside _ v e) w
+
 module _ {L : Type 0} (m : Meaning L) where
   -- conditions that follow at every state give a walk again
   pub walk_map : {P Q P' Q' : ℕ → Type 0} (f : (u : ℕ) → u < states m → P u → P' u) (g : (u : ℕ) → u < states m → Q u → Q' u) {t : ℕ} → t < states m → Walk (Step m) P Q t → Walk (Step m) P' Q' t
