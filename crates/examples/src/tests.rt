@@ -198,3 +198,30 @@ fn refusals_have_numbers(rt: HostRuntime) {
     ];
     assert!(rt; refusals.map(u8::from) == [5, 6, 7, 8, 9, 10, 11, 12]);
 }
+
+#[test]
+fn refusals_have_words(rt: HostRuntime) -> Result<(), Fail> {
+    for (refusal, words) in [
+        (Refusal::NoStates, "no states"),
+        (Refusal::ShortMemory, "memory too short"),
+        (Refusal::NoSuchState, "no such state"),
+        (Refusal::OtherSheet, "not a sheet of this machine"),
+        (Refusal::NotSettled, "sheet not settled"),
+        (
+            Refusal::OtherPair,
+            "pair struck where it should stand, or the other way round",
+        ),
+        (
+            Refusal::NoSuchStep,
+            "no such step, or no walk that answers it",
+        ),
+        (
+            Refusal::LineNotEarlier,
+            "line names a line that is not earlier",
+        ),
+    ] {
+        let printed = refusal.to_string(rt.alloc())?;
+        assert_eq!(rt; printed.as_str(), words);
+    }
+    Ok(())
+}
